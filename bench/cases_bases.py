@@ -27,6 +27,7 @@ BY_HAND = [
     '      SUBROUTINE S(X,N)\n      INTEGER X(9)\n      COMMON /B/ L\n      SAVE M\n      DO 20 J=2,9\n      X(J)=X(J-1)+L+M\n   20 CONTINUE\n      M=M+1\n      RETURN\n      END\n',
     '      SUBROUTINE S\n      COMMON K\n      IF (K.GT.0) THEN\n      K=K-1\n      ELSE\n      STOP\n      END IF\n      END\n      CALL S\n      END\n',
     '      DO 10 I=1,5\n      IF (I.EQ.3) GOTO 20\n   10 CONTINUE\n   20 CONTINUE\n      DO 30 J=1,5,2\n      READ *,K\n   30 CONTINUE\n      END\n',
+    '      PROGRAM P\n      INTEGER A(5)\n      DO 10 WHILE (I.LT.5)\n      I=NEXT(I)\n   10 A(I)=I\n      IF (I.GT.3) J=NEXT(A(2))\n      PRINT *,I,J\n      END\n      FUNCTION NEXT(K)\n      NEXT=K+1\n      END\n',
     'C caf\xe9 "quoted" \\ \x7f\n      PRINT *,\'A B\'\n      END\n',
 ]
 
@@ -359,7 +360,7 @@ def main(seeds=40):
     others = [base for base in map(base_of, random_texts(seeds)) if base]
     texts = [base_file.base_write(base, STAGE) for base in bases]
     small = [with_some(base, r, stage) for base in bases + others for stage in (STAGE, VERSION_1)]
-    small += [with_some(base_of(text, FORMATS_1), r, FORMATS_1) for text in BY_HAND]
+    small += [with_some(base, r, FORMATS_1) for base in (base_of(text, FORMATS_1) for text in BY_HAND) if base]
     cases = [('whole', text, None) for text in [*texts, in_version_1(bases[1]), *small]] + [('alone', text, None) for text in ALONE]
     cases += [('table', text, None) for text in table(texts[0], in_version_1(bases[0]))]
     cases += [(kind, text, None) for kind, text in damaged(small, r) if b'\n==' not in text and not text.startswith(b'==')]

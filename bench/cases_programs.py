@@ -71,7 +71,7 @@ def module_lines(parsed):
 
 def storage_lines(text):
     try:
-        modules = reader.read_modules(text, False)
+        modules = reader.read_modules(text, True)
     except model.Refused as r:
         return [f'read {r.line} {r.code}']
     return [part for parsed in modules for part in module_lines(parsed)]
@@ -95,7 +95,7 @@ def linked_lines(parsed, tables):
 
 def graph_lines(text):
     try:
-        parsed = reader.read_modules(text, False)
+        parsed = reader.read_modules(text, True)
     except model.Refused as r:
         return [f'read {r.line} {r.code}']
     try:
@@ -118,7 +118,7 @@ def effect_line(of, symbols, effect):
 
 
 def effect_lines(text):
-    program = read.read(text)
+    program = read.read(text, functions=True)
     views, known = pipeline.views(program), {}
     for name in program.graph.order:
         view = views[name]
@@ -143,7 +143,7 @@ def change(symbols, t):
 
 
 def scalar_lines(text):
-    program = read.read(text)
+    program = read.read(text, functions=True)
     views, found = pipeline.views(program), pipeline.analyse_scalars(program)
     for name in reversed(program.graph.order):
         view, symbols = views[name], views[name].symbols
@@ -151,7 +151,7 @@ def scalar_lines(text):
         yield f'module {name}'
         yield f'P {rows(symbols, holds.summary)}'
         yield f'T {change(symbols, own.summary)}'
-        for number in sorted(own.at):
+        for number in own.at:
             yield f'{number} P {rows(symbols, holds.at[number])}'
             yield f'{number} T {change(symbols, own.at[number])}'
 

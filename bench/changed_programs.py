@@ -6,7 +6,7 @@ from agreement import header_of, modules_of
 from session_programs import Maker
 
 # words that are no names of variables
-KEYWORDS = set('''ABS AND CALL COMMON CONTINUE DATA DIMENSION DO ELSE END ENDDO ENDIF EQ EQUIVALENCE EQV FALSE GE GO GOTO GT IABS IF IMPLICIT INTEGER LE LOGICAL LT MAX MAX0 MIN MIN0 MOD NE
+KEYWORDS = set('''ABS AND CALL COMMON CONTINUE DATA DIMENSION DO ELSE END ENDDO ENDIF EQ EQUIVALENCE EQV FALSE FUNCTION GE GO GOTO GT IABS IF IMPLICIT INTEGER LE LOGICAL LT MAX MAX0 MIN MIN0 MOD NE
 NEQV NONE NOT OR PARAMETER PRINT PROGRAM READ RETURN SAVE STOP SUBROUTINE THEN TO TRUE WHILE WRITE'''.split())
 NAME = re.compile(r'[A-Z][A-Z0-9_]*')
 LAYOUTS = ['N,M', 'N,M', 'M,N', 'L(2)', 'N', 'N,M,K9', 'N,L(3)']
@@ -125,7 +125,7 @@ class Program:
 
     def drop_one(self):
         """Mostly a module that no other calls."""
-        called = set(re.findall(r'CALL (\w+)', self.text()))
+        called = set(re.findall(r'(?:CALL |=)(\w+)', self.text()))
         free = [at for at, name in enumerate(names_of(self)) if name != 'P' and (name not in called or self.pick.random() < .1)]
         if free:
             at = self.pick.choice(free)
@@ -158,7 +158,7 @@ def made_program(seed):
 def random_program(programs, seed):
     """A program of the reference's random ones."""
     pick = random.Random(seed)
-    lines = programs.make(seed, pick.choice(['tiny', 'sums', 'refs', 'small', 'calls', 'common', 'saved']))[0].split('\n')[:-1]
+    lines = programs.make(seed, pick.choice(['tiny', 'sums', 'refs', 'small', 'calls', 'common', 'saved', 'functions']))[0].split('\n')[:-1]
     return Program(pick, modules_of(lines))
 
 

@@ -236,10 +236,32 @@ def shared_programs():
     return found
 
 
+def function_programs():
+    """Functions: the CALL of a reference is the second of its hidden statements, of which the first has the number 4097."""
+    function, main = ['FUNCTION NF(K)', 'NF=K'], ['PROGRAM P', 'I=NF(1)']
+    logical, none = ['LOGICAL FUNCTION NF(K)', 'NF=K.EQ.1'], ['FUNCTION NF()', 'NF=1']
+    linked = [
+        ([main, function], ['order NF P', 'call P 4098 NF', 'cells P: I NF', 'cells NF: K NF']),
+        ([function, ['PROGRAM P', 'K=NF(2)', 'IF (K.EQ.1) K=NF(K)', 'CALL S'], ['SUBROUTINE S']],
+         ['order NF S P', 'call P 4098 NF', 'call P 4101 NF', 'call P 4 S', 'cells NF: K NF', 'cells P: K NF', 'cells S:']),
+        ([['PROGRAM P', 'DO WHILE (K.LT.9)', 'K=NF(K)', 'END DO', 'L=N0()'], ['FUNCTION N0()', 'N0=3'], function],
+         ['order N0 NF P', 'call P 4099 NF', 'call P 4103 N0', 'cells P: K NF L N0', 'cells N0: N0', 'cells NF: K NF']),
+    ]
+    refused = [
+        ([['PROGRAM P', 'CALL NF(1,J)'], function], 'link 0 2 53'), ([main, ['SUBROUTINE NF(K,L)', 'L=K']], 'link 0 2 53'), ([main], 'link 0 2 53'),
+        ([['PROGRAM NMAIN', 'CALL S'], ['SUBROUTINE S', 'I=NMAIN(1)']], 'link 1 5 53'), ([main, none], 'link 0 2 54'), ([['PROGRAM P', 'I=NF()'], function], 'link 0 2 54'),
+        ([['PROGRAM P', 'I=NF(1,2)'], none, ['SUBROUTINE S', 'CALL T']], 'link 0 2 54'), ([['PROGRAM P', 'I=NF(.TRUE.)'], function], 'link 0 2 55'), ([main, logical], 'link 0 2 55'),
+        ([['PROGRAM P', 'LOGICAL NF,L', 'L=NF(1)'], function], 'link 0 3 55'), ([['PROGRAM P', 'INTEGER A(2)', 'I=NF(A)'], function], 'link 0 3 55'), ([main, ['FUNCTION NF(K)', 'INTEGER NF(2)', 'NF(1)=K']], 'link 0 2 55'),
+        ([main, ['FUNCTION NF(K)', 'NF=NG(K)'], ['FUNCTION NG(K)', 'NG=NF(K)']], 'link 1 5 56'), ([main, ['FUNCTION NF(K)', 'CALL S(K)', 'NF=K'], ['SUBROUTINE S(K)', 'I=NF(K)']], 'link 1 5 56'),
+        ([main, function, function], 'link 2 7 52'), ([['FUNCTION NF(K)', 'NF=K']], 'link 50'),
+    ]
+    return [(whole(*modules), want) for modules, want in linked] + [(whole(*modules), [want]) for modules, want in refused]
+
+
 def graph_programs(count=300, seed=1):
     """Programs, each with the lines that must be printed of it, or None."""
     maker = Maker(seed)
     programs = by_hand()
     programs += [maker.program() for _ in range(count - len(programs))]
-    wanted = dict(short_programs() + shared_programs())
+    wanted = dict(short_programs() + shared_programs() + function_programs())
     return list(wanted.items()) + [(program, None) for program in dict.fromkeys(programs) if program not in wanted]

@@ -1,9 +1,9 @@
 #!/usr/bin/env python3
 """Compiles the texts that a command writes of random programs by gfortran, and runs their parallel loops with several threads.
 
-    python3 bench/openmp.py COUNT [COMMAND..]
+    python3 bench/openmp.py [--profile NAME] COUNT [COMMAND..]
 
-Needs gfortran with OpenMP (libgomp). COUNT programs of reference/programs.py, of its profiles in turn. COMMAND, the built program where none is given, writes each of them with --show bare, why and all. Each text has to be
+Needs gfortran with OpenMP (libgomp). COUNT programs of reference/programs.py, of its profiles in turn or of one. COMMAND, the built program where none is given, writes each of them with --show bare, why and all. Each text has to be
 compiled with -fopenmp and without. Where a run on one of the program's inputs conforms and ends, by the reference interpreter, the text of --show bare has to print what that run prints: without -fopenmp, and with it by 1, 2, 4 and
 8 threads. Prints each difference, and how much was compared.
 Before the command writes directives: python3 bench/openmp.py 3 python3 reference/pips.py --stage marks
@@ -19,7 +19,7 @@ import tempfile
 import reference
 from measure import binary_of
 
-PROFILES = ('parallel', 'loops', 'mixed', 'calls', 'common', 'hazard', 'affine', 'shapes', 'saved', 'storage', 'jumphaz', 'tiny', 'sums', 'reduce')
+PROFILES = ('parallel', 'loops', 'mixed', 'calls', 'common', 'hazard', 'affine', 'shapes', 'saved', 'storage', 'jumphaz', 'tiny', 'sums', 'reduce', 'functions')
 SHOWS = ('bare', 'why', 'all')
 THREADS = (1, 2, 4, 8)
 # constants whose value is too great are errors of compilation, unless they are told apart from programs that never evaluate them
@@ -117,13 +117,14 @@ def try_program(command, place, seed, profile, soundness, programs, counts):
     compare(made, runs, say, counts)
 
 
-def main(count, *command):
-    command = list(command) or [binary_of([])]
+def main(*words):
+    profiles, words = ((words[1],), words[2:]) if words[0] == '--profile' else (PROFILES, words)
+    count, command = words[0], list(words[1:]) or [binary_of([])]
     programs, soundness = reference.load('programs'), reference.load('soundness')
     counts = collections.Counter()
     for seed in range(int(count)):
         with tempfile.TemporaryDirectory() as place:
-            try_program(command, place, seed, PROFILES[seed % len(PROFILES)], soundness, programs, counts)
+            try_program(command, place, seed, profiles[seed % len(profiles)], soundness, programs, counts)
     names = ('programs', 'refused', 'programs with one', 'directives', 'texts compiled', 'runs of the reference', 'runs compared', 'too slow for the reference', 'differences')
     print(', '.join(f'{counts[name]} {name}' for name in names))
     return counts['differences'] > 0

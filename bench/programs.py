@@ -13,6 +13,13 @@ SPECIFICATIONS = [
 # what the statements below ask of their names, and the subroutines that they call
 NAMES = ['IMPLICIT INTEGER(A-K,M-Z),LOGICAL(L)', 'INTEGER A(10),B(5,5),IF(3)']
 CALLED = [['SUBROUTINE S', 'END'], ['SUBROUTINE T(D,N)', 'INTEGER D(N)', 'D(1)=N', 'END'], ['SUBROUTINE U(I,L)', 'LOGICAL L', 'IF (L) I=1', 'END']]
+# the functions that they refer to, and some of the references, with a DO WHILE in one of them
+FUNCTIONS = [
+    ['FUNCTION NF(I,D)', 'INTEGER D(*)', 'NF=I+D(1)', 'END'], ['integer function n0 ( )', 'N0=4', 'END'], ['LOGICAL FUNCTION LF(I,L)', 'LOGICAL L', 'LF=L.AND.I.GT.2', 'END'],
+    ['INTEGERFUNCTIONNG(I)', 'NG=0', 'DO WHILE (NG.LT.I)', 'NG=NG+1', 'END DO', 'RETURN', 'END'],
+]
+REFERENCES = ['I=NF(J,A)', 'A(I)=NF(I+1,A)', 'I=N0()', 'A ( 2 ) = N 0 ( )', 'L=LF(I,L)', 'LL = LF ( I+J , .TRUE. )', 'IF (L) I=NG(I)', 'IF(I.EQ.1)A(I)=N0()', 'K=NG(NA)', 'B(I,2)=NG(A(1))', 'k=nf(2,a(3))']
+WHILES = ['I.LT.5', 'L', '.NOT.L.OR.I.GE.J', 'A(I).EQ.2', 'I.LT.5.AND.(J.GT.1)']
 SIMPLE = [
     'I=1', 'I = I + 1', 'A(I)=A(I-1)+2*I', 'B(I,J+1)=A(B(1,2))', 'L=.NOT.(I.EQ.1).AND.J.LT.2.OR.L.EQV.LL', 'L=I+1.GE.2*J.NEQV..TRUE.',
     'L=.NOT.I.GT.J.AND..NOT.LL', 'I=-J**2**K+(3-4)/5*(6)', 'I=+I', 'I=2*(-3)', 'I=00012', 'L=1.EQ.2', 'L=(1.NE.2).OR.(I.LE.J)', 'CALL S',
@@ -34,6 +41,10 @@ UNLINKING = [
     ['SUBROUTINE R', 'CALL S(1)', 'END'], ['SUBROUTINE R', 'CALL U(I)', 'END'], ['SUBROUTINE R', 'CALL U(1,2)', 'END'], ['SUBROUTINE R', 'CALL T(I,1)', 'END'],
     ['SUBROUTINE R', 'CALL Q2', 'END'], ['SUBROUTINE R', 'INTEGER J(2)', 'CALL T(J,J)', 'END'],
 ]
+UNLINKING_FUNCTIONS = [
+    ['FUNCTION N1(I)', 'N1=NG(I,2)', 'END'], ['SUBROUTINE R', 'I=NS(1)', 'END', 'SUBROUTINE NS(K,L)', 'END'], ['SUBROUTINE R', 'CALL NG(1,I)', 'END'], ['SUBROUTINE R', 'LOGICAL NG,L', 'L=NG(1)', 'END'],
+    ['FUNCTION N1(I)', 'N1=N2(I)', 'END', 'FUNCTION N2(I)', 'N2=N1(I)', 'END'], ['SUBROUTINE R', 'I=N3(1)', 'END'], ['SUBROUTINE R', 'I=NG(.TRUE.)', 'END'], ['SUBROUTINE R', 'I=NF(1,I)', 'END'], ['FUNCTION NG(I)', 'END'],
+]
 COMMENTS = ['C a comment', '* star', 'c> kept, since it is small', 'C> dropped', 'C$OMP PARALLEL DO', '! bang', '', '   ', 'C' + 'x' * 80, '*\tTab']
 
 
@@ -44,12 +55,12 @@ def line(text, label=''):
 
 
 class Maker:
-    """Random programs, of blocks that fit and labels that stand once, with a share of faults."""
+    """Random programs, of blocks that fit and labels that stand once, with a share of faults; with functions and DO WHILE where `functions` says so."""
 
-    def __init__(self, seed):
+    def __init__(self, seed, functions=False):
         self.pick = random.Random(seed)
         self.label = 0
-        self.calls = True
+        self.calls, self.functions = True, functions
 
     def chance(self, p):
         return self.pick.random() < p
@@ -70,9 +81,10 @@ class Maker:
         """A statement; `ends` says that it ends a DO, where some forms may not stand."""
         if not label and self.chance(.15):
             label = self.new_label()
-        text = self.pick.choice(SIMPLE)
+        forms = REFERENCES if self.functions and self.calls and self.chance(.3) else SIMPLE
+        text = self.pick.choice(forms)
         while self.is_unfit(text, ends):
-            text = self.pick.choice(SIMPLE)
+            text = self.pick.choice(forms)
         if label and not ends and self.chance(.1):
             text = self.pick.choice(['GO TO ', 'goto', 'IF (L) GO TO ']) + str(label)
         return self.comments() + line(text, label)
@@ -96,6 +108,17 @@ class Maker:
             lines += self.body(depth) + line(f'DO {end} M=1,2')
         return lines + self.body(depth) + self.simple(end, True)
 
+    def do_while(self, depth):
+        test = self.pick.choice(WHILES)
+        label = self.new_label() if self.chance(.15) else ''
+        if self.chance(.6):
+            return line(self.pick.choice(['DO WHILE (%s)', 'do while(%s)', 'DOWHILE ( %s )']) % test, label) + self.body(depth) + self.comments() + line(self.pick.choice(['END DO', 'ENDDO']), self.new_label() if self.chance(.1) else '')
+        end = self.new_label()
+        lines = line(self.pick.choice(['DO %d WHILE (%s)', 'DO %d, WHILE(%s)', 'DO%dWHILE(%s)']) % (end, test), label)
+        if self.chance(.3):
+            lines += self.body(depth) + line(self.pick.choice(['DO %d M=1,2', 'DO %d WHILE (L)']) % end)
+        return lines + self.body(depth) + self.simple(end, True)
+
     def body(self, depth):
         lines = []
         for _ in range(self.pick.randint(0, 4)):
@@ -103,7 +126,7 @@ class Maker:
             if depth > 0 and kind < .25:
                 lines += self.block_if(depth - 1)
             elif depth > 0 and kind < .5:
-                lines += self.loop(depth - 1)
+                lines += self.do_while(depth - 1) if self.functions and self.chance(.5) else self.loop(depth - 1)
             else:
                 lines += self.simple()
         return lines
@@ -119,10 +142,11 @@ class Maker:
         return lines
 
     def module(self, title):
-        self.calls = not title.startswith('SUB')
+        called = title.startswith(('SUB', 'FUN', 'INTEGER', 'LOGICAL'))
+        self.calls = not called
         lines = self.comments() + (line(title) if title else [])
         lines += self.specifications() + self.body(3)
-        if title.startswith('SUB') and self.chance(.3):
+        if called and self.chance(.3):
             lines += line('RETURN')
         return lines + self.comments() + line('END', self.new_label() if self.chance(.1) else '')
 
@@ -132,9 +156,12 @@ class Maker:
         for title in self.pick.sample(['SUBROUTINE V(A,N)', 'SUBROUTINE W', 'subroutine x ()'], self.pick.choice([0, 0, 1, 2])):
             self.label = 0
             lines += self.module(title)
-        for statements in CALLED:
+        for title in self.pick.sample(['FUNCTION NV(A,N)', 'INTEGER FUNCTION W0()', 'LOGICAL FUNCTION LW(N)', 'function k()'], self.pick.choice([0, 0, 1, 2])) if self.functions else []:
+            self.label = 0
+            lines += self.module(title)
+        for statements in CALLED + (FUNCTIONS if self.functions else []):
             lines += [part for text in statements for part in line(text)]
-        for statements in self.pick.sample(UNLINKING, self.pick.choice([1, 1, 2])) if self.chance(.12) else []:
+        for statements in self.pick.sample(UNLINKING + (UNLINKING_FUNCTIONS if self.functions else []), self.pick.choice([1, 1, 2])) if self.chance(.12) else []:
             lines += [part for text in statements for part in line(text)]
         lines += self.comments()
         if self.chance(.1):
@@ -144,6 +171,6 @@ class Maker:
         return '\n'.join(lines) + '\n'
 
 
-def random_programs(count, seed=1):
-    maker = Maker(seed)
+def random_programs(count, seed=1, functions=False):
+    maker = Maker(seed, functions)
     return [(maker.pick.choice(['--show all', '--show bare', '--show why']), maker.program()) for _ in range(count)]

@@ -3,7 +3,7 @@
 
     python3 bench/random_cases.py [COUNT]
 
-COUNT random programs of every form, 200 where it is not given; then with `--show all` the programs of region_programs.py, in_programs.py and out_programs.py that are
+COUNT random programs of every form, 200 where it is not given, and 40 with functions and DO WHILE; then with `--show all` the programs of region_programs.py, in_programs.py and out_programs.py that are
 accepted, those by hand and random ones, as many of each as REGIONS says. The lines that their scripts want must be among those written, or it stops.
 """
 import os
@@ -21,6 +21,7 @@ from region_programs import region_programs
 
 # programs of array regions of each kind
 REGIONS = 150
+FUNCTIONS = 40
 
 
 def code_of(status, err):
@@ -60,7 +61,7 @@ def of_regions():
 def main(count=200):
     sys.setrecursionlimit(1_000_000)
     given, wanted, codes = [], [], Counter()
-    for words, program in [*random_programs(int(count)), *of_regions()]:
+    for words, program in [*random_programs(int(count)), *random_programs(FUNCTIONS, 2, True), *of_regions()]:
         status, out, err = answer(words.split(), program)
         given.append(f'{program}\n== {words} p.f\n'.encode('latin-1'))
         wanted.append(f'== {status_of(err) if status else "Done"}\n'.encode() + out + err)

@@ -9,7 +9,7 @@ TOP = os.path.dirname(HERE)
 FOLDER = os.path.join(TOP, 'reference')
 
 # the stage at which the reference answers as the command does today (reference/README.md lists them)
-STAGE = 'pieces'
+STAGE = 'references'
 # the last stage that keeps bases of version 1, and the last with the format number 1 of every kind
 VERSION_1, FORMATS_1 = 'verify', 'base-2'
 
@@ -29,9 +29,13 @@ def load(name):
 
 
 def at_stage(module):
-    """The same, with the choice that its own functions do not make by the stage: how many systems a region has."""
-    if module.__name__ == 'regions':
-        module.set_pieces(4 if importlib.import_module('stages').since(STAGE, 'pieces') else 1)
+    """The same, with the choices that its own functions do not make by the stage: how many systems a region has, and what holds of FUNCTION and DO WHILE."""
+    since = importlib.import_module('stages').since
+    importlib.import_module('regions').set_pieces(4 if since(STAGE, 'pieces') else 1)
+    importlib.import_module('scalars').set_whiles(since(STAGE, 'functions'))
+    importlib.import_module('loops').set_copies(since(STAGE, 'copies'))
+    if module.__name__ == 'soundness':
+        module.FUNCTIONS = since(STAGE, 'references')
     return module
 
 

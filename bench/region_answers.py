@@ -9,7 +9,7 @@ def region_module_lines(view, sets):
     yield f'module {view.module.name}'
     for before, added in printer.region_lines(view, sets):
         yield f'{before} {added}'
-    for number in sorted(sets.at):
+    for number in sets.at:
         yield f'{number}'
         yield from (' ' + printer.region_text(view.symbols, r) for r in sets.at[number])
     yield 'summary'
@@ -17,7 +17,7 @@ def region_module_lines(view, sets):
 
 
 def result_lines(text):
-    program = read.read(text)
+    program = read.read(text, functions=True)
     views, found, known = pipeline.views(program), pipeline.analyse_scalars(program), {}
     for name in program.graph.order:
         sets = regions.regions(views[name], found[name]['transformers'], known)
@@ -27,7 +27,7 @@ def result_lines(text):
 
 def with_ins(text):
     """Of each module, callees first, its view, what is found of its scalars, its READ and WRITE regions, and its IN regions."""
-    program = read.read(text)
+    program = read.read(text, functions=True)
     views, found, known, known_ins = pipeline.views(program), pipeline.analyse_scalars(program), {}, {}
     for name in program.graph.order:
         view, own = views[name], found[name]['transformers']
@@ -43,7 +43,7 @@ def in_lines(text):
 
 
 def out_lines(text):
-    program = read.read(text)
+    program = read.read(text, functions=True)
     views, found, known, known_ins, sets, ins, outs = pipeline.views(program), pipeline.analyse_scalars(program), {}, {}, {}, {}, {}
     for name in program.graph.order:
         view, own = views[name], found[name]['transformers']

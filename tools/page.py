@@ -5,7 +5,7 @@ from typing import Dict, List, Optional, Tuple
 
 from calls import drawing
 from reasons import LONG, accesses_in_words, in_words
-from written import Loop, Program, Statement, obstacles
+from written import Loop, Program, Statement, is_title, obstacles
 
 STYLE = """
 :root { color-scheme: light dark; --text: #1d2330; --soft: #5d6675; --ground: #ffffff; --card: #f5f6f8; --line: #d9dde3;
@@ -46,7 +46,7 @@ summary:hover { background: var(--card); }
 dt { font-weight: 600; margin-top: 12px; } dd { margin: 2px 0 0; max-width: 80ch; }
 """
 
-# How a claim begins, in words: of a statement, and of a SUBROUTINE.
+# How a claim begins, in words: of a statement, and of a SUBROUTINE or a FUNCTION.
 KINDS = {'READ': 'reads', 'WRITE': 'writes', 'IN': 'reads before it writes', 'OUT': 'writes, and may be read later'}
 AMOUNTS = {'EXACT': 'all of these', 'MAY': 'no others'}
 REGION = re.compile(r'C> (READ|WRITE|IN|OUT) (\S+) (\{.*\}) (EXACT|MAY)( WEAK)?')
@@ -105,7 +105,7 @@ def mark_in_words(loop: Loop) -> str:
 
 def said_of(statements: List[Statement], loop: Optional[Loop]) -> str:
     """All that is said of the statements that begin in a line, or nothing."""
-    rows = [claim_row(line, statement.text.startswith('SUBROUTINE')) for statement in statements for line in statement.said]
+    rows = [claim_row(line, is_title(statement.text)) for statement in statements for line in statement.said]
     table = ''.join(row for row in rows if row)
     return (mark_in_words(loop) if loop else '') + (f'<table>{table}</table>' if table else '')
 

@@ -1,11 +1,11 @@
 """A source in fixed form beside the text that `pips --show all` writes of it: modules, statements with what is said of them, and loops.
 
-The written text has the statements of the source in their order. Added are an END DO for each DO with a label, and a CONTINUE for the label of
-an END, END IF or END DO. So each written statement has its lines of the source.
+The written text has the statements of the source in their order. Added are an END DO for each DO or DO WHILE with a label, and a CONTINUE for the
+label of an END, END IF or END DO. So each written statement has its lines of the source.
 """
 import re
 from dataclasses import dataclass, field
-from typing import Dict, Iterator, List, Optional, Tuple
+from typing import Dict, Iterator, List, Optional, Set, Tuple
 
 
 @dataclass
@@ -54,7 +54,7 @@ class Loop:
 
 @dataclass
 class Module:
-    """A main program or a subroutine, with its statements, its loops, and the modules that it calls."""
+    """A main program, a subroutine or a function, with its statements, its loops, and the modules that it calls."""
     name: str
     statements: List[Statement]
     loops: List[Loop]
@@ -122,7 +122,7 @@ def written_statements(lines: List[str]) -> Iterator[Tuple[str, str, List[str]]]
 
 
 def is_added(label: str, text: str, original: Original, closes_label: bool) -> bool:
-    """Whether a written statement is none of the source: the END DO of a DO with a label, or a CONTINUE for the label of an END, END IF or END DO."""
+    """Whether a written statement is none of the source: the END DO of a loop with a label, or a CONTINUE for the label of an END, END IF or END DO."""
     return closes_label if text == 'END DO' else text == 'CONTINUE' and (label, text) != (original.label, original.text)
 
 
@@ -133,7 +133,7 @@ def paired(source: List[str], written: List[str]) -> Iterator[Statement]:
     at, last = 0, 1
     for label, text, said in written_statements(written):
         original = given[min(at, len(given) - 1)]
-        if is_do(text):
+        if is_do(text) or is_while(text):
             labelled.append(re.match(r'DO\d', original.text) is not None)
         if is_added(label, text, original, text == 'END DO' and labelled.pop()):
             yield Statement(text, last, last, said)
@@ -148,34 +148,63 @@ def is_do(text: str) -> bool:
     return re.match(r'DO \w+ = ', text) is not None
 
 
+def is_while(text: str) -> bool:
+    return text.startswith('DO WHILE (')
+
+
+def is_title(text: str) -> bool:
+    """Whether a module that others call begins with this statement."""
+    return re.match(r'SUBROUTINE |(?:INTEGER |LOGICAL )?FUNCTION ', text) is not None
+
+
 def name_of(text: str) -> str:
-    """The name of the module that a statement begins: MAIN, where it is none of PROGRAM and SUBROUTINE."""
-    found = re.match(r'(?:PROGRAM|SUBROUTINE) (\w+)', text)
+    """The name of the module that a statement begins: MAIN, where it is none of PROGRAM, SUBROUTINE and FUNCTION."""
+    found = re.match(r'(?:PROGRAM|SUBROUTINE|(?:INTEGER |LOGICAL )?FUNCTION) (\w+)', text)
     return found.group(1) if found else 'MAIN'
 
 
-def called(text: str) -> Optional[str]:
-    """The module that a statement calls, also after the test of a logical IF."""
-    found = re.search(r'(?:^|\) )CALL (\w+)', re.sub(r"'[^']*'", '', text))
-    return found.group(1) if found else None
+def functions_of(statements: List[Statement]) -> Set[str]:
+    """The functions among the modules of some statements."""
+    return {name_of(statement.text) for statement in statements if is_title(statement.text) and 'FUNCTION ' in statement.text.split('(')[0]}
+
+
+def arrays_of(statements: List[Statement]) -> Set[str]:
+    """The names with bounds in a module."""
+    declared = [statement.text for statement in statements if re.match(r'(?:INTEGER|LOGICAL|DIMENSION|COMMON) ', statement.text)]
+    return {name for text in declared for name in re.findall(r'(\w+)\(', text)}
+
+
+def called(text: str, functions: Set[str]) -> Optional[str]:
+    """The module that a statement calls, also after the test of a logical IF: by CALL, or as a function of one of these names."""
+    bare = re.sub(r"'[^']*'", '', text)
+    found = re.search(r'(?:^|\) )CALL (\w+)', bare)
+    if found:
+        return found.group(1)
+    found = re.search(r' = (\w+)\(', bare)
+    return found.group(1) if found and found.group(1) in functions else None
 
 
 def loops_of(statements: List[Statement]) -> List[Loop]:
-    """The loops in the order of their DO statements."""
+    """The loops in the order of their DO statements. A DO WHILE, of which there is no mark, is none."""
     loops: List[Loop] = []
-    active: List[Loop] = []
+    active: List[Optional[Loop]] = []
     for statement in statements:
         if is_do(statement.text):
-            loop = Loop(statement, statement.last, len(active))
+            loop = Loop(statement, statement.last, len(active) - active.count(None))
             loops.append(loop)
             active.append(loop)
+        elif is_while(statement.text):
+            active.append(None)
         elif statement.text == 'END DO':
-            active.pop().last = statement.last
+            ended = active.pop()
+            if ended:
+                ended.last = statement.last
     return loops
 
 
-def module_of(statements: List[Statement]) -> Module:
-    calls = dict.fromkeys(name for name in (called(statement.text) for statement in statements) if name)
+def module_of(statements: List[Statement], functions: Set[str]) -> Module:
+    known = functions - arrays_of(statements)
+    calls = dict.fromkeys(name for name in (called(statement.text, known) for statement in statements) if name)
     return Module(name_of(statements[0].text), statements, loops_of(statements), list(calls))
 
 
@@ -184,10 +213,12 @@ def program_of(name: str, source: str, written: str) -> Program:
     lines = [line.rstrip('\r') for line in source.split('\n')]
     modules: List[Module] = []
     open_module: List[Statement] = []
-    for statement in paired(lines, written.split('\n')):
+    statements = list(paired(lines, written.split('\n')))
+    functions = functions_of(statements)
+    for statement in statements:
         open_module.append(statement)
         if statement.text == 'END':
-            modules.append(module_of(open_module))
+            modules.append(module_of(open_module, functions))
             open_module = []
     return Program(name, lines[:-1] if lines[-1] == '' else lines, modules)
 

@@ -1,3 +1,3 @@
-C a variable with a subscript, on the right
-      J=I(2)
+C a variable with a subscript, in an expression
+      J=I(2)+1
       END

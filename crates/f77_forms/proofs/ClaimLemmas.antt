@@ -4,6 +4,7 @@ use Rattle.std.proofs.lemmas.List.Elements.{All-nil, All-cons}
 use Rattle.std.specs.Prelude.{IsTrue, All, Contains, unwrap_or, IfSome}
 use Rattle.f77_forms.specs.declared.choice.Choice.TheVariants.{Chosen, OutOfProfile}
 use Rattle.f77_forms.specs.declared.form.FormId.{FormId}
+use Rattle.f77_forms.specs.declared.form.FormId.TheVariants.{DoWhile}
 use Rattle.f77_forms.specs.declared.refused.Refused.{Refused}
 use Rattle.f77_forms.specs.Outline.{front, marks_of}
 use Rattle.f77_forms.specs.Longest.{longer, longest}
@@ -116,6 +117,7 @@ keyword-by table body id (Some e) hf (Some r) hr h =
 form_of-keyword : (table : List Entry) (body : List ℕ) → IsByKeyword body → form_of table body ≡ chosen (keyword_choice table body)
 form_of-keyword table body k =
     ap (λ o. chosen (unwrap_or o (marked_choice (marks_of front body) table body))) k.0 ∙ ap (λ m. chosen (marked_choice m table body)) k.1
+    ∙ ap (λ w. chosen (if w then Chosen DoWhile else keyword_choice table body)) k.2
 
 -- a form that is chosen by its keyword has the longest
 pub form-begins : (table : List Entry) (body : List ℕ) (r : Option FormId) → r ≡ form_of table body → IsByKeyword body → IfSome r (BeginsAs table body)

@@ -1,11 +1,11 @@
 -- How the form of a statement is chosen: a stripped statement, by the keywords of a table.
-use Rattle.std.specs.Prelude.{ℕ, List, [], ◌∷◌, length, map, Option, Some, None, Bool, true, not, ◌&&◌, ◌||◌, if◌then◌else◌, nat_lt, nat_eq, unwrap_or, option_and_then, bytes_eq, codes}
+use Rattle.std.specs.Prelude.{ℕ, List, [], ◌∷◌, length, map, Option, Some, None, Bool, true, false, not, ◌&&◌, ◌||◌, if◌then◌else◌, nat_lt, nat_eq, unwrap_or, option_and_then, bytes_eq, codes}
 use Rattle.std.specs.List.{list_any}
 use Rattle.f77_forms.specs.declared.choice.Choice.{Choice}
 use Rattle.f77_forms.specs.declared.choice.Choice.TheVariants.{Chosen, OutOfProfile, Syntax}
 use Rattle.f77_forms.specs.declared.form.Form.{Form}
 use Rattle.f77_forms.specs.declared.form.FormId.{FormId}
-use Rattle.f77_forms.specs.declared.form.FormId.TheVariants.{Assignment, LogicalIf, BlockIf, Do}
+use Rattle.f77_forms.specs.declared.form.FormId.TheVariants.{Assignment, LogicalIf, BlockIf, Do, DoWhile}
 use Rattle.f77_forms.specs.declared.outline.Marks.{Marks}
 use Rattle.f77_forms.specs.declared.outline.Marks.TheVariants.{NoEqual, Equal, EqualAndComma}
 use Rattle.f77_forms.specs.declared.refused.Refused.{Refused}
@@ -41,7 +41,23 @@ if_body (c ∷ cs) = if nat_eq c 40 then option_and_then if_behind (rest_after_c
 abbrev pub if_choice : List ℕ → Option Choice
 if_choice body = option_and_then if_body (rest_after (codes "IF") body)
 
--- 4. the longest keyword that the statement begins with, of the table and of those that are refused; where they are the same, it is refused
+-- 4. DO, a label and a comma, neither of which need be there, and WHILE(
+abbrev pub skip_digits : List ℕ → List ℕ
+skip_digits [] = []
+skip_digits (c ∷ cs) = if is_digit c then skip_digits cs else c ∷ cs
+
+abbrev pub skip_comma : List ℕ → List ℕ
+skip_comma [] = []
+skip_comma (c ∷ cs) = if nat_eq c 44 then cs else c ∷ cs
+
+abbrev pub while_behind : Option (List ℕ) → Bool
+while_behind None = false
+while_behind (Some rest) = begins (codes "WHILE(") (skip_comma (skip_digits rest))
+
+abbrev pub begins_while : List ℕ → Bool
+begins_while body = while_behind (rest_after (codes "DO") body)
+
+-- 5. the longest keyword that the statement begins with, of the table and of those that are refused; where they are the same, it is refused
 abbrev pub entry_stands : List ℕ → Entry → Bool
 entry_stands body e = not (is_empty e.word) && begins e.word body
 
@@ -59,7 +75,7 @@ keyword_choice table body =
 abbrev pub marked_choice : Marks → List Entry → List ℕ → Choice
 marked_choice Equal table body = Chosen Assignment
 marked_choice EqualAndComma table body = if begins (codes "DO") body then Chosen Do else Syntax
-marked_choice NoEqual table body = keyword_choice table body
+marked_choice NoEqual table body = if begins_while body then Chosen DoWhile else keyword_choice table body
 
 -- the first rule that fits
 abbrev pub choice_of : List Entry → List ℕ → Choice

@@ -1,14 +1,14 @@
 -- What a form that is chosen by its keyword says: no longer keyword was passed over.
-use Rattle.std.specs.Prelude.{◌≡◌, ℕ, ◌<◌, ◌≤◌, List, length, None, IsTrue, All, Contains}
+use Rattle.std.specs.Prelude.{◌≡◌, ℕ, ◌<◌, ◌≤◌, List, length, None, false, IsTrue, All, Contains}
 use Rattle.f77_forms.specs.declared.form.FormId.{FormId}
 use Rattle.f77_forms.specs.declared.outline.Marks.TheVariants.{NoEqual}
 use Rattle.f77_forms.specs.Outline.{front, marks_of}
 use Rattle.f77_forms.specs.Refused.{refused_word, refused_stands, refused_keywords}
-use Rattle.f77_forms.specs.Choice.{Entry, entry_stands, if_choice}
+use Rattle.f77_forms.specs.Choice.{Entry, entry_stands, if_choice, begins_while}
 
--- neither IF nor = decides
+-- neither IF nor = nor DO WHILE decides
 abbrev pub IsByKeyword : List ℕ → Type 0
-IsByKeyword body = (if_choice body ≡ None) × (marks_of front body ≡ NoEqual)
+IsByKeyword body = (if_choice body ≡ None) × (marks_of front body ≡ NoEqual) × (begins_while body ≡ false)
 
 -- the statement begins with a word of the table that stands for the form
 pub record BeginsAs (table : List Entry) (body : List ℕ) (id : FormId) : Type 0 where

@@ -1,14 +1,17 @@
 -- The forms of the profile and the keyword of each.
 use Rattle.std.specs.Prelude.{ℕ, List, [], ◌∷◌, map, Option, codes}
 use Rattle.f77_forms.specs.declared.form.FormId.{FormId}
-use Rattle.f77_forms.specs.declared.form.FormId.TheVariants.{Program, Subroutine, Implicit, Integer, Logical, Dimension, Parameter, Common, Equivalence, Save, Data, Assignment, LogicalIf, BlockIf, ElseIf, Else, EndIf, Do, EndDo, Continue, Return, End, Goto, Call, Stop, Print, Write, Read}
+use Rattle.f77_forms.specs.declared.form.FormId.TheVariants.{Program, Subroutine, Function, IntegerFunction, LogicalFunction, Implicit, Integer, Logical, Dimension, Parameter, Common, Equivalence, Save, Data, Assignment, LogicalIf, BlockIf, ElseIf, Else, EndIf, Do, DoWhile, EndDo, Continue, Return, End, Goto, Call, Stop, Print, Write, Read}
 use Rattle.f77_forms.specs.declared.refused.Refused.{Refused}
 use Rattle.f77_forms.specs.Choice.{Entry, choice_of, form_of, refused_of}
 
--- the keyword that a form begins with; no keyword tells an assignment, an IF or a DO
+-- the keyword that a form begins with; no keyword tells an assignment, an IF, a DO or a DO WHILE
 abbrev pub keyword_of : FormId → List ℕ
 keyword_of Program = codes "PROGRAM"
 keyword_of Subroutine = codes "SUBROUTINE"
+keyword_of Function = codes "FUNCTION"
+keyword_of IntegerFunction = codes "INTEGERFUNCTION"
+keyword_of LogicalFunction = codes "LOGICALFUNCTION"
 keyword_of Implicit = codes "IMPLICIT"
 keyword_of Integer = codes "INTEGER"
 keyword_of Logical = codes "LOGICAL"
@@ -25,6 +28,7 @@ keyword_of ElseIf = codes "ELSEIF"
 keyword_of Else = codes "ELSE"
 keyword_of EndIf = codes "ENDIF"
 keyword_of Do = []
+keyword_of DoWhile = []
 keyword_of EndDo = codes "ENDDO"
 keyword_of Continue = codes "CONTINUE"
 keyword_of Return = codes "RETURN"
@@ -38,8 +42,8 @@ keyword_of Read = codes "READ"
 
 abbrev pub all_forms : List FormId
 all_forms =
-    Program ∷ Subroutine ∷ Implicit ∷ Integer ∷ Logical ∷ Dimension ∷ Parameter ∷ Common ∷ Equivalence ∷ Save ∷ Data ∷ Assignment ∷ LogicalIf ∷ BlockIf ∷
-    ElseIf ∷ Else ∷ EndIf ∷ Do ∷ EndDo ∷ Continue ∷ Return ∷ End ∷ Goto ∷ Call ∷ Stop ∷ Print ∷ Write ∷ Read ∷ []
+    Program ∷ Subroutine ∷ Function ∷ IntegerFunction ∷ LogicalFunction ∷ Implicit ∷ Integer ∷ Logical ∷ Dimension ∷ Parameter ∷ Common ∷ Equivalence ∷ Save ∷ Data ∷ Assignment ∷ LogicalIf ∷ BlockIf ∷
+    ElseIf ∷ Else ∷ EndIf ∷ Do ∷ DoWhile ∷ EndDo ∷ Continue ∷ Return ∷ End ∷ Goto ∷ Call ∷ Stop ∷ Print ∷ Write ∷ Read ∷ []
 
 -- each form with its keyword
 abbrev pub profile : List Entry

@@ -2,7 +2,7 @@
 use Rattle.std.specs.Prelude.{ℕ, List, [], ◌∷◌, Option, Some, None, Bool, true, false, not, ◌&&◌, ◌||◌, nat_eq, codes}
 use Rattle.std.specs.List.{list_any}
 use Rattle.f77_forms.specs.declared.refused.Refused.{Refused}
-use Rattle.f77_forms.specs.declared.refused.Refused.TheVariants.{Real, DoublePrecision, Complex, Character, Format, Open, Close, Inquire, Rewind, Backspace, EndFile, Entry, BlockData, External, Intrinsic, Assign, Pause, Function, IntegerFunction, LogicalFunction, DoWhile, OtherGoto, OtherPrint, OtherWrite, OtherRead, ArithmeticIf}
+use Rattle.f77_forms.specs.declared.refused.Refused.TheVariants.{Real, DoublePrecision, Complex, Character, Format, Open, Close, Inquire, Rewind, Backspace, EndFile, Entry, BlockData, External, Intrinsic, Assign, Pause, OtherGoto, OtherPrint, OtherWrite, OtherRead, ArithmeticIf}
 use Rattle.f77_forms.specs.Words.{rest_after, begins, is_letter, is_empty}
 
 abbrev pub refused_word : Refused → List ℕ
@@ -23,10 +23,6 @@ refused_word External = codes "EXTERNAL"
 refused_word Intrinsic = codes "INTRINSIC"
 refused_word Assign = codes "ASSIGN"
 refused_word Pause = codes "PAUSE"
-refused_word Function = codes "FUNCTION"
-refused_word IntegerFunction = codes "INTEGERFUNCTION"
-refused_word LogicalFunction = codes "LOGICALFUNCTION"
-refused_word DoWhile = codes "DOWHILE"
 refused_word OtherGoto = codes "GOTO"
 refused_word OtherPrint = codes "PRINT"
 refused_word OtherWrite = codes "WRITE"
@@ -37,7 +33,7 @@ refused_word ArithmeticIf = codes "IF"
 abbrev pub refused_keywords : List Refused
 refused_keywords =
     Real ∷ DoublePrecision ∷ Complex ∷ Character ∷ Format ∷ Open ∷ Close ∷ Inquire ∷ Rewind ∷ Backspace ∷ EndFile ∷ Entry ∷ BlockData ∷ External ∷
-    Intrinsic ∷ Assign ∷ Pause ∷ Function ∷ IntegerFunction ∷ LogicalFunction ∷ DoWhile ∷ OtherGoto ∷ OtherPrint ∷ OtherWrite ∷ OtherRead ∷ []
+    Intrinsic ∷ Assign ∷ Pause ∷ OtherGoto ∷ OtherPrint ∷ OtherWrite ∷ OtherRead ∷ []
 
 -- a letter or a parenthesis behind GO TO: assigned or computed
 abbrev pub is_indirect : List ℕ → Bool

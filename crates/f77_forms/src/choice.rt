@@ -1,7 +1,7 @@
 //! How the form of a statement is chosen.
 
 ghost use Rattle.std.specs.Prelude.{◌≡◌, ◌<◌, ◌^◌, length, IsTrue, IfSome, option_map};
-ghost use Rattle.f77_forms.specs.Choice.{entries, entry, no_word_twice, if_behind, if_body, if_choice, longer_of, keyword_choice, choice_of, form_of};
+ghost use Rattle.f77_forms.specs.Choice.{entries, entry, no_word_twice, if_behind, if_body, if_choice, longer_of, keyword_choice, choice_of, form_of, skip_digits, skip_comma, begins_while};
 ghost use Rattle.f77_forms.specs.Claim.{IsByKeyword, BeginsAs};
 ghost use Rattle.f77_forms.specs.Profile.{profile, statement_form, statement_refused};
 
@@ -70,6 +70,40 @@ fn if_choice(body: &[u8]) -> Option<Choice>
     }
 }
 
+/// What follows the digits at the front of a text.
+fn skip_digits(text: &[u8]) -> &[u8]
+    ensures { result.now ≡ skip_digits text.now }
+{
+    let mut rest = text;
+    while let [c, more @ ..] = rest {
+        if !is_digit(*c) {
+            return rest;
+        }
+        rest = more;
+    }
+    rest
+}
+
+/// What follows a comma, which need not be there.
+fn skip_comma(text: &[u8]) -> &[u8]
+    ensures { result.now ≡ skip_comma text.now }
+{
+    match text {
+        [b',', rest @ ..] => rest,
+        _ => text,
+    }
+}
+
+/// Whether a statement without `=` is a DO WHILE.
+fn begins_while(body: &[u8]) -> bool
+    ensures { result ≡ begins_while body.now }
+{
+    match rest_after(b"DO", body) {
+        None => false,
+        Some(rest) => begins(b"WHILE(", skip_comma(skip_digits(rest))),
+    }
+}
+
 /// The longer of a form's keyword and a refused one, and of two equal ones the refused.
 fn longer_of(form: Option<Form>, refused: Option<Refused>) -> Choice
     ensures { result ≡ longer_of (option_map entry form) refused }
@@ -110,7 +144,13 @@ fn choice_of(table: &[Form], body: &[u8]) -> Choice
                 Choice::Syntax
             }
         }
-        Marks::NoEqual => keyword_choice(table, body),
+        Marks::NoEqual => {
+            if begins_while(body) {
+                Choice::Chosen(FormId::DoWhile)
+            } else {
+                keyword_choice(table, body)
+            }
+        }
     }
 }
 

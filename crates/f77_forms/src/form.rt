@@ -4,11 +4,14 @@ ghost use Rattle.std.specs.Prelude.{◌≡◌, IsTrue};
 ghost use Rattle.f77_forms.specs.Choice.{entries, no_word_twice};
 ghost use Rattle.f77_forms.specs.Profile.{profile};
 
-/// A form of statement of the profile: one of ANSI X3.9-1978 §7, or END DO.
+/// A form of statement of the profile: one of ANSI X3.9-1978 §7, or DO WHILE or END DO.
 #[derive(Clone, Copy, PartialEq, Eq)]
 pub enum FormId {
     Program,
     Subroutine,
+    Function,
+    IntegerFunction,
+    LogicalFunction,
     Implicit,
     Integer,
     Logical,
@@ -25,6 +28,7 @@ pub enum FormId {
     Else,
     EndIf,
     Do,
+    DoWhile,
     EndDo,
     Continue,
     Return,
@@ -51,9 +55,12 @@ macro_rules! forms {
 }
 
 /// The forms of the profile, each once.
-pub const TABLE: [Form; 28] = forms![
+pub const TABLE: [Form; 32] = forms![
     "PROGRAM" = Program,
     "SUBROUTINE" = Subroutine,
+    "FUNCTION" = Function,
+    "INTEGERFUNCTION" = IntegerFunction,
+    "LOGICALFUNCTION" = LogicalFunction,
     "IMPLICIT" = Implicit,
     "INTEGER" = Integer,
     "LOGICAL" = Logical,
@@ -70,6 +77,7 @@ pub const TABLE: [Form; 28] = forms![
     "ELSE" = Else,
     "ENDIF" = EndIf,
     "" = Do,
+    "" = DoWhile,
     "ENDDO" = EndDo,
     "CONTINUE" = Continue,
     "RETURN" = Return,

@@ -26,10 +26,6 @@ pub enum Refused {
     Intrinsic,
     Assign,
     Pause,
-    Function,
-    IntegerFunction,
-    LogicalFunction,
-    DoWhile,
     /// GO TO before a letter or a parenthesis: assigned or computed.
     OtherGoto,
     /// PRINT with another control part than `*`.
@@ -43,7 +39,7 @@ pub enum Refused {
 }
 
 /// Those that are known by their keyword and what follows it: all but the arithmetic IF.
-pub const REFUSED: [Refused; 25] = [
+pub const REFUSED: [Refused; 21] = [
     Refused::Real,
     Refused::DoublePrecision,
     Refused::Complex,
@@ -61,10 +57,6 @@ pub const REFUSED: [Refused; 25] = [
     Refused::Intrinsic,
     Refused::Assign,
     Refused::Pause,
-    Refused::Function,
-    Refused::IntegerFunction,
-    Refused::LogicalFunction,
-    Refused::DoWhile,
     Refused::OtherGoto,
     Refused::OtherPrint,
     Refused::OtherWrite,
@@ -121,10 +113,6 @@ impl Refused {
             Refused::Intrinsic => "INTRINSIC",
             Refused::Assign => "ASSIGN",
             Refused::Pause => "PAUSE",
-            Refused::Function => "FUNCTION",
-            Refused::IntegerFunction => "INTEGERFUNCTION",
-            Refused::LogicalFunction => "LOGICALFUNCTION",
-            Refused::DoWhile => "DOWHILE",
             Refused::OtherGoto => "GOTO",
             Refused::OtherPrint => "PRINT",
             Refused::OtherWrite => "WRITE",
@@ -158,11 +146,7 @@ impl Refused {
             | Refused::External
             | Refused::Intrinsic
             | Refused::Assign
-            | Refused::Pause
-            | Refused::Function
-            | Refused::IntegerFunction
-            | Refused::LogicalFunction
-            | Refused::DoWhile => true,
+            | Refused::Pause => true,
             Refused::ArithmeticIf => false,
         }
     }

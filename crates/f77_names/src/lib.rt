@@ -13,7 +13,7 @@ mod table;
 
 pub use entry::{Entry, Shape, Word};
 pub use functions::Function;
-pub use kinds::Kind;
+pub use kinds::{Kind, Kinds};
 pub use lines::{LineTable, Sited};
 pub use names::Names;
 pub use table::{NameTable, table_of};

@@ -2,3 +2,10 @@ pub mod StatementLemmas
 pub mod SoFarLemmas
 pub mod SizeLemmas
 pub mod ModuleLemmas
+pub mod NameLaws
+pub mod StandingLaws
+pub mod ReferenceLaws
+pub mod HiddenLaws
+pub mod PlainLaws
+pub mod ElaborateLaws
+pub mod ReadLaws

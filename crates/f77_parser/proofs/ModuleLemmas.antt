@@ -5,7 +5,8 @@ use Rattle.f77_ast.specs.DeclTrees.{ParsedTree}
 use Rattle.f77_parser.specs.Gives.{Refused, and_then}
 use Rattle.f77_parser.specs.Statements.{StatementTree}
 use Rattle.f77_structure.specs.Lists.{is_none_of}
-use Rattle.f77_parser.specs.Modules.{ends_module, closing_at, module_read, modules_from}
+use Rattle.f77_parser.specs.Ends.{ends_module}
+use Rattle.f77_parser.specs.Modules.{closing_at, module_read, modules_from}
 
 pub none_mapped : {A : Type 0} {B : Type 0} (f : A → B) (xs : List A) → is_none_of xs ≡ is_none_of (map f xs)
 none_mapped f [] = refl

@@ -7,14 +7,14 @@ use Rattle.fx_lists.specs.declared.code.Code.{Code}
 use Rattle.fixed_form.specs.declared.line.Line.{Line}
 use Rattle.fixed_form.specs.declared.line.Lines.{Lines}
 use Rattle.fixed_form.specs.Characters.{is_space, upper_case}
-use Rattle.fixed_form.specs.TextLines.{text_lines, lines_of, onto_first, without_returns}
+use Rattle.fixed_form.specs.TextLines.{text_lines, lines_of, without_returns}
 use Rattle.fixed_form.specs.Cards.{front, card, columns, is_comment, is_dropped, is_initial, label_field}
 use Rattle.fixed_form.specs.Body.{stripped, quoted_after_byte}
 use Rattle.fixed_form.specs.Faults.{first_fault}
 use Rattle.fixed_form.specs.Reading.{Rest, label_of, before_statements, with_comment, with_initial, with_continuation, with_line, rest_from, ends_well, outcome, reading}
 use Rattle.fixed_form.proofs.CardLemmas.{length-front, length-filled}
 use Rattle.f77_parser.specs.Statements.{length_of, characters}
-use Rattle.fixed_form.proofs.LawLemmas.{length-onto_first as onto_first-short, length-lines_of as lines_of-short}
+use Rattle.fixed_form.proofs.LawLemmas.{length-lines_of as lines_of-short}
 use Rattle.fx_lists.proofs.Lists.{each_short}
 
 -- ---- one line

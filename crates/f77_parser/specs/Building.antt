@@ -1,16 +1,18 @@
 -- What each statement makes of its module.
 use Rattle.std.specs.Prelude.{ℕ, true, false, List, [], ◌∷◌, ◌++◌, length, Option, Some, None, codes}
+use Rattle.f77_ast.specs.declared.module.FunctionForm.{FunctionForm}
 use Rattle.f77_ast.specs.declared.places.Part.{Part}
 use Rattle.f77_ast.specs.declared.places.Part.TheVariants as parts
 use Rattle.f77_ast.specs.Trees.{ExprTree, StmtTree, continue, ArmTree, arm}
 use Rattle.f77_ast.specs.DeclTrees.{DeclTree, ParsedTree}
 use Rattle.f77_ast.specs.PlainStmt.{stmts_of}
-use Rattle.f77_statements.specs.Phrases.{PhraseTree, program, subroutine, specification, simple, logical_if, block_if, else_if, else_part, end_if, do_head, end_do, end_module}
+use Rattle.f77_statements.specs.Phrases.{PhraseTree, program, subroutine, function, specification, simple, logical_if, block_if, else_if, else_part, end_if, do_head, while_head, end_do, end_module}
 use Rattle.f77_parser.specs.declared.progress.Heading.{Heading}
-use Rattle.f77_parser.specs.SoFar.{OpeningTree, opening_loop, branches, AroundTree, SoFar, add_spot, add_executable, add_logical_if, open_block, end_loops, end_loops_at, close_block}
+use Rattle.f77_parser.specs.SoFar.{OpeningTree, opening_loop, opening_while, branches, AroundTree, SoFar, add_spot, add_executable, add_logical_if, open_block, add_while, end_loops, end_loops_at, close_block}
 use Rattle.f77_parser.specs.Statements.{StatementTree}
+use Rattle.f77_parser.specs.Elaborated.{elaborated}
 
--- PROGRAM or SUBROUTINE
+-- PROGRAM, SUBROUTINE or FUNCTION
 abbrev pub set_heading : ℕ → List (List ℕ) → Heading → SoFar → SoFar
 set_heading first comments h p = add_spot parts.Title first comments (record p { heading = h })
 
@@ -20,6 +22,7 @@ add_specification first comments d p = add_spot (parts.Decl (length p.decls)) fi
 -- the parts of a block IF, this being the open list
 abbrev pub close_arm : OpeningTree → List StmtTree → List ArmTree
 close_arm (opening_loop d) list = []
+close_arm (opening_while l test) list = []
 close_arm (branches arms (Some test)) list = arms ++ arm test (stmts_of list) ∷ []
 close_arm (branches arms None) list = arms
 
@@ -62,12 +65,21 @@ abbrev pub close_module : ℕ → Option ℕ → List (List ℕ) → SoFar → S
 close_module first None comments p = add_spot parts.End first comments p
 close_module first (Some l) comments p = add_spot parts.End first [] (add_continue first l comments p)
 
+abbrev pub program_heading : List ℕ → Heading
+program_heading n = record { name = n; main = true; titled = true; dummies = []; function = None }
+
+abbrev pub subroutine_heading : List ℕ → List (List ℕ) → Heading
+subroutine_heading n ds = record { name = n; main = false; titled = false; dummies = ds; function = None }
+
+-- the name of a function is its last dummy argument
+abbrev pub function_heading : FunctionForm → List ℕ → List (List ℕ) → Heading
+function_heading form n ds = record { name = n; main = false; titled = false; dummies = ds ++ n ∷ []; function = Some form }
+
 -- one statement more, by what it says
 abbrev pub add_phrase : ℕ → Option ℕ → List (List ℕ) → PhraseTree → SoFar → SoFar
-add_phrase first label comments (program n) p =
-    set_heading first comments (record { name = n; main = true; titled = true; dummies = [] }) p
-add_phrase first label comments (subroutine n ds) p =
-    set_heading first comments (record { name = n; main = false; titled = false; dummies = ds }) p
+add_phrase first label comments (program n) p = set_heading first comments (program_heading n) p
+add_phrase first label comments (subroutine n ds) p = set_heading first comments (subroutine_heading n ds) p
+add_phrase first label comments (function form n ds) p = set_heading first comments (function_heading form n ds) p
 add_phrase first label comments (specification d) p = add_specification first comments d p
 add_phrase first label comments (simple w) p = end_loops_at label (add_executable first label comments w p)
 add_phrase first label comments (logical_if e w) p = end_loops_at label (add_logical_if first label comments e w p)
@@ -76,6 +88,7 @@ add_phrase first label comments (else_if e) p = divide_block first comments (Som
 add_phrase first label comments else_part p = divide_block first comments None p
 add_phrase first label comments end_if p = close_if first label comments p
 add_phrase first label comments (do_head d) p = open_block first label comments (opening_loop d) p
+add_phrase first label comments (while_head l e) p = open_block first label comments (opening_while l e) (add_while p)
 add_phrase first label comments end_do p = close_do first label comments p
 add_phrase first label comments end_module p = close_module first label comments p
 
@@ -91,9 +104,10 @@ add_all (s ∷ ss) p = add_all ss (add_statement s p)
 -- a module without a heading is a main program with the name MAIN
 abbrev pub no_statements : SoFar
 no_statements = record {
-  heading = record { name = codes "MAIN"; main = true; titled = false; dummies = [] };
+  heading = record { name = codes "MAIN"; main = true; titled = false; dummies = []; function = None };
   decls = [];
   count = 0;
+  whiles = [];
   spots = [];
   list = [];
   around = [];
@@ -108,13 +122,21 @@ whole closing p = record {
     dummies = p.heading.dummies;
     decls = p.decls;
     body = stmts_of p.list;
-    function = None;
+    function = p.heading.function;
     references = [];
-    whiles = [];
+    whiles = p.whiles;
   };
   places = record { spots = p.spots; closing = closing };
 }
 
+-- the module as these statements write it, with the comments behind it
+unfoldable pub written_module : List (List ℕ) → List StatementTree → ParsedTree
+written_module closing ss = whole closing (add_all ss no_statements)
+
+-- with the statements that stand for assignments of the value of a function, and for DO WHILEs
+abbrev pub elaborated_parsed : ParsedTree → ParsedTree
+elaborated_parsed p = record p { module_read = elaborated p.module_read }
+
 -- the module of these statements, with the comments behind it
 unfoldable pub build_module : List (List ℕ) → List StatementTree → ParsedTree
-build_module closing ss = whole closing (add_all ss no_statements)
+build_module closing ss = elaborated_parsed (written_module closing ss)

@@ -1,5 +1,5 @@
 -- What a reading function returns, beside what the definition gives.
-use Rattle.std.specs.Prelude.{◌≡◌, ℕ, List, Result, Ok, Err}
+use Rattle.std.specs.Prelude.{◌≡◌, ℕ, Bool, true, false, List, Result, Ok, Err}
 use Rattle.f77_parser.specs.declared.refusal.ParseRefusal.{ParseRefusal}
 use Rattle.f77_parser.specs.declared.refusal.ParseRefusal.TheVariants.{At, Memory}
 
@@ -14,6 +14,10 @@ abbrev pub Gives : {A B : Type 0} → (A → B) → Result A ParseRefusal → Re
 Gives view (Ok a) read = read ≡ Ok (view a)
 Gives view (Err (At line code keyword)) read = read ≡ Err (record { line = line; code = code; keyword = keyword })
 Gives view (Err Memory) read = Unit {0}
+
+abbrev pub is_memory : ParseRefusal → Bool
+is_memory (At line code keyword) = false
+is_memory Memory = true
 
 abbrev pub and_then : {A B : Type 0} → Result A Refused → (A → Result B Refused) → Result B Refused
 and_then (Ok a) f = f a

@@ -1,6 +1,12 @@
 pub mod Gives
 pub mod Roles
 pub mod Statements
+pub mod Functions
+pub mod Elaborated
+pub mod Known
 pub mod SoFar
 pub mod Building
+pub mod Ends
+pub mod Standing
+pub mod References
 pub mod Modules

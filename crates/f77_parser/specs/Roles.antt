@@ -1,6 +1,6 @@
 -- What a statement is in its module.
 use Rattle.f77_ast.specs.Trees.{WhatTree, assign, block_if, logical_if, do_loop, call, goto, continue, return, stop, print, read}
-use Rattle.f77_statements.specs.Phrases.{PhraseTree, program, subroutine, specification, simple, else_if, else_part, end_if, do_head, end_do, end_module}
+use Rattle.f77_statements.specs.Phrases.{PhraseTree, program, subroutine, function, specification, simple, else_if, else_part, end_if, do_head, while_head, end_do, end_module}
 use Rattle.f77_statements.specs.Phrases as phrases
 use Rattle.f77_structure.specs.declared.mark.Action.{Action}
 use Rattle.f77_structure.specs.declared.mark.Action.TheVariants.{Goto, Return, Stop, Other}
@@ -25,6 +25,8 @@ action_of (read es) = Other
 abbrev pub role_of : PhraseTree → Role
 role_of (program n) = Program
 role_of (subroutine n ds) = Subroutine
+-- a function is a subroutine whose last dummy argument is its result
+role_of (function form n ds) = Subroutine
 role_of (specification d) = Specification
 role_of (simple w) = Plain (action_of w)
 role_of (phrases.logical_if e w) = LogicalIf (action_of w)
@@ -33,5 +35,7 @@ role_of (else_if e) = ElseIf
 role_of else_part = Else
 role_of end_if = EndIf
 role_of (do_head d) = Do d.label
+-- a DO WHILE ends as a DO does
+role_of (while_head l e) = Do l
 role_of end_do = EndDo
 role_of end_module = End

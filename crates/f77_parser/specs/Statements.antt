@@ -49,6 +49,15 @@ abbrev pub all_read : List StatementTree → List Line → Result (List Statemen
 all_read done [] = Ok done
 all_read done (l ∷ ls) = and_then (statement_of l) (λ s. all_read (done ++ s ∷ []) ls)
 
+abbrev pub with_read : Result StatementTree Refused → List StatementTree → List StatementTree
+with_read (Ok s) ss = s ∷ ss
+with_read (Err r) ss = ss
+
+-- the statements of these lines, without those that are refused
+abbrev pub those_read : List Line → List StatementTree
+those_read [] = []
+those_read (l ∷ ls) = with_read (statement_of l) (those_read ls)
+
 -- a statement as far as structure asks
 abbrev pub mark_of : StatementTree → Mark
 mark_of s = record { line = s.first; label = s.label; role = role_of s.phrase; deep = s.deep }

@@ -5,19 +5,19 @@ ghost use Rattle.f77_ast.specs.PlainDecl.{decl_tree};
 ghost use Rattle.f77_statements.specs.Phrases.{phrase_tree};
 ghost use Rattle.f77_parser.specs.SoFar.{so_far, opening_tree, around_tree};
 ghost use Rattle.f77_parser.specs.Statements.{statement_tree};
-ghost use Rattle.f77_parser.specs.Building.{set_heading, add_specification, close_arm, part_of, next_block, next_part, divide_block, add_continue, close_if, close_do, close_module, add_phrase, add_statement};
+ghost use Rattle.f77_parser.specs.Building.{set_heading, program_heading, subroutine_heading, function_heading, add_specification, close_arm, part_of, next_block, next_part, divide_block, add_continue, close_if, close_do, close_module, add_phrase, add_statement};
 
 use crate::numbers::place_of;
 use crate::progress::{Around, Front, Heading, Opening, Progress, add_arm};
 use crate::statement::Statement;
-use f77_ast::{Arm, Decl, Expr, Part, Stmt, StmtId, What};
+use f77_ast::{Arm, Decl, Expr, FunctionForm, Part, Stmt, StmtId, What};
 use f77_statements::Phrase;
 use fx_lists::{List, Text};
 use std::alloc::{AllocError as Memory, Global};
 use std::mem;
 
 impl Progress {
-    /// PROGRAM or SUBROUTINE.
+    /// PROGRAM, SUBROUTINE or FUNCTION.
     fn set_heading(&mut self, front: Front, heading: Heading) -> Result<(), Memory>
         ensures { IfOk result (λ _. so_far self.new ≡ set_heading front.first front.comments heading (so_far self.old)) }
     {
@@ -97,7 +97,7 @@ impl Progress {
             label,
             comments,
         } = front;
-        self.close_block(first, comments)?;
+        self.close_block(alloc, first, comments)?;
         match label {
             None => Ok(()),
             Some(label) => self.add_continue(alloc, first, label, List::new(alloc)),
@@ -113,10 +113,10 @@ impl Progress {
             comments,
         } = front;
         match label {
-            None => self.close_block(first, comments),
+            None => self.close_block(alloc, first, comments),
             Some(label) => {
                 self.add_continue(alloc, first, label, comments)?;
-                self.close_block(first, List::new(alloc))
+                self.close_block(alloc, first, List::new(alloc))
             }
         }
     }
@@ -144,9 +144,12 @@ impl Progress {
     {
         let label = front.label;
         match phrase {
-            Phrase::Program(name) => self.set_heading(front, main_heading(alloc, name)),
+            Phrase::Program(name) => self.set_heading(front, program_heading(alloc, name)),
             Phrase::Subroutine(name, dummies) => {
                 self.set_heading(front, subroutine_heading(name, dummies))
+            }
+            Phrase::Function(form, name, dummies) => {
+                self.set_heading(front, function_heading(form, name, dummies)?)
             }
             Phrase::Decl(decl) => self.add_specification(front, decl),
             Phrase::Simple(what) => {
@@ -165,6 +168,10 @@ impl Progress {
             Phrase::Else => self.divide_block(alloc, front, None),
             Phrase::EndIf => self.close_if(alloc, front),
             Phrase::Do(head) => self.open_block(alloc, front, Opening::Loop(head)),
+            Phrase::While(last, test) => {
+                self.add_while()?;
+                self.open_block(alloc, front, Opening::While(last, test))
+            }
             Phrase::EndDo => self.close_do(alloc, front),
             Phrase::End => self.close_module(alloc, front),
         }
@@ -195,7 +202,7 @@ fn close_arm(alloc: Global, opening: Opening, list: List<Stmt>) -> Result<List<A
     ensures { IfOk result (λ arms. map arm_tree arms ≡ close_arm (opening_tree opening) (map stmt_tree list)) }
 {
     match opening {
-        Opening::Loop(_) => Ok(List::new(alloc)),
+        Opening::Loop(_) | Opening::While(..) => Ok(List::new(alloc)),
         Opening::Branches(arms, test) => match test {
             None => Ok(arms),
             Some(test) => add_arm(arms, test, list),
@@ -240,24 +247,41 @@ fn next_part(
     Ok((next, part))
 }
 
-fn main_heading(alloc: Global, name: Text) -> Heading
-    ensures { result ≡ record { name = name; main = true; titled = true; dummies = [] } }
+fn program_heading(alloc: Global, name: Text) -> Heading
+    ensures { result ≡ program_heading name }
 {
     Heading {
         name,
         main: true,
         titled: true,
         dummies: List::new(alloc),
+        function: None,
     }
 }
 
 fn subroutine_heading(name: Text, dummies: List<Text>) -> Heading
-    ensures { result ≡ record { name = name; main = false; titled = false; dummies = dummies } }
+    ensures { result ≡ subroutine_heading name dummies }
 {
     Heading {
         name,
         main: false,
         titled: false,
         dummies,
+        function: None,
     }
+}
+
+/// The heading of a function, whose name is its last dummy.
+fn function_heading(form: FunctionForm, name: Text, dummies: List<Text>) -> Result<Heading, Memory>
+    ensures { IfOk result (λ h. h ≡ function_heading form name dummies) }
+{
+    let mut dummies = dummies;
+    dummies.push(name.clone()?)?;
+    Ok(Heading {
+        name,
+        main: false,
+        titled: false,
+        dummies,
+        function: Some(form),
+    })
 }

@@ -22,3 +22,10 @@ pub fn place_of(place: usize) -> Result<u32, Memory>
     }
     Ok(place as u32)
 }
+
+/// The sum; Err where it passes 2^32 - 1, to which so many statements never come.
+pub fn sum(a: u32, b: u32) -> Result<u32, Memory>
+    ensures { IfOk result (λ n. n ≡ a + b) }
+{
+    a.checked_add(b).ok_or(Memory)
+}

@@ -4,10 +4,10 @@ ghost use Rattle.f77_ast.specs.Trees.{stmt, logical_if, arm};
 ghost use Rattle.f77_ast.specs.Plain.{expr_tree};
 ghost use Rattle.f77_ast.specs.PlainStmt.{stmt_tree, what_tree, loop_tree, arm_tree, stmts_of};
 ghost use Rattle.f77_statements.specs.Phrases.{do_tree};
-ghost use Rattle.f77_parser.specs.SoFar.{so_far, opening_tree, around_tree, what_of, loop_of, add_spot, add_executable, add_logical_if, open_block, add_block, is_loop_to, end_loops, end_loops_at, close_block};
+ghost use Rattle.f77_parser.specs.SoFar.{so_far, opening_tree, around_tree, what_of, loop_of, add_spot, add_executable, add_logical_if, open_block, add_while, add_block, is_label, is_loop_to, end_loops, end_loops_at, close_block};
 
 use crate::numbers::next;
-use f77_ast::{Arm, Decl, Expr, Loop, Part, Spot, Stmt, StmtId, What};
+use f77_ast::{Arm, Decl, Expr, FunctionForm, Loop, Part, Spot, Stmt, StmtId, What};
 use f77_statements::DoHead;
 use f77_structure::Stack;
 use fx_lists::{List, Text};
@@ -21,12 +21,15 @@ pub struct Heading {
     pub main: bool,
     pub titled: bool,
     pub dummies: List<Text>,
+    pub function: Option<FunctionForm>,
 }
 
 /// What opened a block, and the parts of it before the open list.
 #[derive(Drop)]
 pub enum Opening {
     Loop(DoHead),
+    /// A DO WHILE: the label of its last statement where it has one, and the test.
+    While(Option<u32>, Expr),
     /// The parts of the block IF that are closed, and the test of the open one, None in its ELSE.
     Branches(List<Arm>, Option<Expr>),
 }
@@ -47,6 +50,8 @@ pub struct Progress {
     pub decls: List<Decl>,
     /// How many executable statements there were.
     pub count: u32,
+    /// Those that are a DO WHILE, in the order of the text.
+    pub whiles: List<StmtId>,
     /// The lines of the statements, in the order of the text.
     pub spots: List<Spot>,
     /// The statements of the innermost open block since its last part, or of the module where no block is open.
@@ -150,6 +155,15 @@ impl Progress {
         self.add_spot(Part::Stmt(id), first, comments)
     }
 
+    /// Records that the next executable statement is a DO WHILE.
+    #[tactic(auto, unfolding(crate::specs::SoFar::add_while))]
+    pub fn add_while(&mut self) -> Result<(), Memory>
+        ensures { IfOk result (λ _. so_far self.new ≡ add_while (so_far self.old)) }
+    {
+        let id = next(self.count)?;
+        self.whiles.push(id)
+    }
+
     /// Puts an open block inside the others, as the innermost.
     pub fn add_around(&mut self, alloc: Global, block: Around) -> Result<(), Memory>
         ensures { IfOk result (λ _. self.new ≡ record self.old { around = block ∷ self.old.around }) }
@@ -161,7 +175,7 @@ impl Progress {
 
     /// A block that was open stands behind what was before it in its list.
     #[tactic(auto, using(crate::proofs::SoFarLemmas::lists))]
-    fn add_block(&mut self, block: Around) -> Result<(), Memory>
+    fn add_block(&mut self, alloc: Global, block: Around) -> Result<(), Memory>
         ensures { IfOk result (λ _. so_far self.new ≡ record (so_far self.old) { list = add_block (around_tree block) (map stmt_tree self.old.list) }) }
     {
         let Around {
@@ -171,11 +185,11 @@ impl Progress {
             opening,
         } = block;
         let list = mem::replace(&mut self.list, before);
-        let what = what_of(opening, list)?;
+        let what = what_of(alloc, opening, list)?;
         self.list.push(Stmt { id, label, what })
     }
 
-    /// Ends the innermost DOs as long as their last statement is to have this label (§11.10).
+    /// Ends the innermost DOs and DO WHILEs as long as their last statement is to have this label (§11.10).
     pub fn end_loops(&mut self, alloc: Global, label: u32) -> Result<(), Memory>
         ensures { IfOk result (λ _. so_far self.new ≡ end_loops label (so_far self.old)) }
     {
@@ -183,7 +197,7 @@ impl Progress {
             if !is_loop_to(&block.opening, label) {
                 return self.add_around(alloc, block);
             }
-            self.add_block(block)?;
+            self.add_block(alloc, block)?;
         }
         Ok(())
     }
@@ -199,14 +213,19 @@ impl Progress {
     }
 
     /// Ends the innermost block, where there is one, at an END IF or END DO on this line.
-    pub fn close_block(&mut self, first: u32, comments: List<Text>) -> Result<(), Memory>
+    pub fn close_block(
+        &mut self,
+        alloc: Global,
+        first: u32,
+        comments: List<Text>,
+    ) -> Result<(), Memory>
         ensures { IfOk result (λ _. so_far self.new ≡ close_block first comments (so_far self.old)) }
     {
         match self.around.pop() {
             None => Ok(()),
             Some(block) => {
                 let id = block.id;
-                self.add_block(block)?;
+                self.add_block(alloc, block)?;
                 self.add_spot(Part::Close(id), first, comments)
             }
         }
@@ -237,13 +256,14 @@ pub fn add_arm(arms: List<Arm>, test: Expr, body: List<Stmt>) -> Result<List<Arm
     Ok(arms)
 }
 
-/// A block with all that stands in it.
+/// A block with all that stands in it. A DO WHILE is a block IF with one part.
 #[tactic(auto, using(crate::proofs::SoFarLemmas::wholes))]
-fn what_of(opening: Opening, list: List<Stmt>) -> Result<What, Memory>
+fn what_of(alloc: Global, opening: Opening, list: List<Stmt>) -> Result<What, Memory>
     ensures { IfOk result (λ w. what_tree w ≡ what_of (opening_tree opening) (map stmt_tree list)) }
 {
     match opening {
         Opening::Loop(head) => Ok(What::Do(loop_of(head, list))),
+        Opening::While(_, test) => Ok(What::If(add_arm(List::new(alloc), test, list)?, None)),
         Opening::Branches(arms, test) => match test {
             None => Ok(What::If(arms, Some(list))),
             Some(test) => Ok(What::If(add_arm(arms, test, list)?, None)),
@@ -271,14 +291,21 @@ fn loop_of(head: DoHead, body: List<Stmt>) -> Loop
     }
 }
 
+fn is_label(own: Option<u32>, label: u32) -> bool
+    ensures { result ≡ is_label label own }
+{
+    match own {
+        None => false,
+        Some(own) => own == label,
+    }
+}
+
 fn is_loop_to(opening: &Opening, label: u32) -> bool
     ensures { result ≡ is_loop_to label (opening_tree opening.now) }
 {
     match opening {
-        Opening::Loop(head) => match head.label {
-            None => false,
-            Some(own) => own == label,
-        },
+        Opening::Loop(head) => is_label(head.label, label),
+        Opening::While(own, _) => is_label(*own, label),
         Opening::Branches(..) => false,
     }
 }

@@ -1,6 +1,7 @@
 //! Why a text has no modules.
 ghost use Rattle.std.specs.Prelude.{◌≡◌};
 ghost use Rattle.f77_parser.specs.declared.refusal.ParseRefusal.TheVariants.{Memory};
+ghost use Rattle.f77_parser.specs.Gives.{is_memory};
 
 use fx_lists::Text;
 use std::alloc::{AllocError, AllocFailed};
@@ -14,6 +15,18 @@ pub enum ParseRefusal {
     At(u32, u32, Text),
     #[error("out of memory")]
     Memory,
+}
+
+impl ParseRefusal {
+    /// Whether memory ran out.
+    pub fn is_memory(&self) -> bool
+        ensures { result ≡ is_memory self.now }
+    {
+        match self {
+            ParseRefusal::At(..) => false,
+            ParseRefusal::Memory => true,
+        }
+    }
 }
 
 impl From<AllocError> for ParseRefusal {

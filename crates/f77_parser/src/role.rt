@@ -34,7 +34,7 @@ pub fn role_of(phrase: &Phrase) -> Role
 {
     match phrase {
         Phrase::Program(_) => Role::Program,
-        Phrase::Subroutine(..) => Role::Subroutine,
+        Phrase::Subroutine(..) | Phrase::Function(..) => Role::Subroutine,
         Phrase::Decl(_) => Role::Specification,
         Phrase::Simple(what) => Role::Plain(action_of(what)),
         Phrase::LogicalIf(_, what) => Role::LogicalIf(action_of(what)),
@@ -43,6 +43,7 @@ pub fn role_of(phrase: &Phrase) -> Role
         Phrase::Else => Role::Else,
         Phrase::EndIf => Role::EndIf,
         Phrase::Do(head) => Role::Do(head.label),
+        Phrase::While(last, _) => Role::Do(*last),
         Phrase::EndDo => Role::EndDo,
         Phrase::End => Role::End,
     }

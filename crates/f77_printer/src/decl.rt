@@ -50,7 +50,6 @@ pub trait Written {
 }
 
 /// Appends the texts of items, joined by commas.
-#[tactic(auto, using(crate::proofs::TextLemmas::joined_steps))]
 pub fn write_joined<T: Written>(
     alloc: Global,
     out: &mut Text,
@@ -58,8 +57,16 @@ pub fn write_joined<T: Written>(
 ) -> Result<(), Memory>
     ensures { OnOk result (out.new ≡ out.old ++ joined_by T.text parts.now) }
 {
+    write_row(alloc, out, parts.as_slice())
+}
+
+/// Appends the texts of items, joined by commas.
+#[tactic(auto, using(crate::proofs::TextLemmas::joined_steps))]
+pub fn write_row<T: Written>(alloc: Global, out: &mut Text, parts: &[T]) -> Result<(), Memory>
+    ensures { OnOk result (out.new ≡ out.old ++ joined_by T.text parts.now) }
+{
     let mut is_first = true;
-    for part in parts.as_slice() {
+    for part in parts {
         if !is_first {
             out.append(b",")?;
         }

@@ -2,6 +2,7 @@
 ghost use Rattle.std.specs.Prelude.{◌≡◌, ◌++◌, OnOk, IfOk, codes};
 ghost use Rattle.std.specs.Fmt.{signed_decimal};
 ghost use Rattle.f77_ast.specs.Plain.{expr_tree, expr_trees};
+ghost use Rattle.f77_ast.specs.Hidden.{without_last};
 ghost use Rattle.f77_printer.specs.ExprText.{expr_text, exprs_text, items_text, log_text, doubled};
 
 use f77_ast::Expr;
@@ -48,7 +49,7 @@ pub fn write_expr(alloc: Global, out: &mut Text, e: &Expr) -> Result<(), Memory>
         Expr::Element(f, es) => {
             out.append(f.as_slice())?;
             out.append(b"(")?;
-            write_exprs(alloc, out, es)?;
+            write_row(alloc, out, es.as_slice())?;
             out.append(b")")
         }
         Expr::Paren(e) => {
@@ -76,11 +77,11 @@ pub fn write_expr(alloc: Global, out: &mut Text, e: &Expr) -> Result<(), Memory>
 /// Appends the texts of expressions, joined by commas.
 #[cycle(write)]
 #[tactic(auto, using(f77_ast::proofs::Plainly::expr_lists))]
-pub fn write_exprs(alloc: Global, out: &mut Text, es: &List<Expr>) -> Result<(), Memory>
+fn write_row(alloc: Global, out: &mut Text, es: &[Expr]) -> Result<(), Memory>
     ensures { OnOk result (out.new ≡ out.old ++ exprs_text (expr_trees es.now)) }
 {
     let mut is_first = true;
-    for e in es.as_slice() {
+    for e in es {
         if !is_first {
             out.append(b",")?;
         }
@@ -88,4 +89,20 @@ pub fn write_exprs(alloc: Global, out: &mut Text, es: &List<Expr>) -> Result<(),
         write_expr(alloc, out, e)?;
     }
     Ok(())
+}
+
+/// Appends the texts of expressions, joined by commas.
+pub fn write_exprs(alloc: Global, out: &mut Text, es: &List<Expr>) -> Result<(), Memory>
+    ensures { OnOk result (out.new ≡ out.old ++ exprs_text (expr_trees es.now)) }
+{
+    write_row(alloc, out, es.as_slice())
+}
+
+/// Appends the texts of expressions but the last, joined by commas.
+#[tactic(auto, using(crate::proofs::FormLemmas::without_last_taken))]
+pub fn write_but_last(alloc: Global, out: &mut Text, es: &List<Expr>) -> Result<(), Memory>
+    ensures { OnOk result (out.new ≡ out.old ++ exprs_text (without_last (expr_trees es.now))) }
+{
+    let list = es.as_slice();
+    write_row(alloc, out, &list[..list.len().saturating_sub(1)])
 }

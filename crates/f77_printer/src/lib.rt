@@ -5,6 +5,7 @@ mod added;
 mod blocks;
 mod decl;
 mod expr;
+mod form;
 mod here;
 mod layout;
 mod module;

@@ -1,18 +1,19 @@
 //! Whole modules.
-ghost use Rattle.std.specs.Prelude.{◌≡◌, ◌++◌, OnOk, IfOk, map};
+ghost use Rattle.std.specs.Prelude.{◌≡◌, ◌++◌, OnOk, IfOk, codes, map};
 ghost use Rattle.f77_ast.specs.PlainStmt.{stmt_trees};
 ghost use Rattle.f77_ast.specs.PlainDecl.{decl_tree, module_tree};
 ghost use Rattle.f77_printer.specs.Here.{here_part};
 ghost use Rattle.f77_printer.specs.Lines.{lines_of};
 ghost use Rattle.f77_printer.specs.Pages.{page_tree};
-ghost use Rattle.f77_printer.specs.ModuleText.{has_title, dummies_text, title_text, with_title, with_decl, with_decls, with_end, with_module, first_in, first_below, first_part, module_text};
+ghost use Rattle.f77_printer.specs.DeclText.{joined_by};
+ghost use Rattle.f77_printer.specs.ModuleText.{has_title, dummies_text, titled_dummies, function_word, head_word, head_dummies, title_text, with_title, with_decl, with_decls, with_end, with_module, first_in, first_below, first_part, module_text};
 
 use crate::added::{Added, Lines, lines_by_part};
 use crate::blocks::{put_start, put_statements, put_words};
-use crate::decl::{Written, write_decl, write_joined};
+use crate::decl::{Written, write_decl, write_joined, write_row};
 use crate::here::Here;
 use crate::page::{Page, put_line, write_whole};
-use f77_ast::{Decl, Module, Part, Places, Stmt};
+use f77_ast::{Decl, FunctionForm, Module, Part, Places, Stmt};
 use fx_lists::{List, Text};
 use std::alloc::{AllocError as Memory, Global};
 
@@ -36,7 +37,58 @@ fn write_dummies(alloc: Global, out: &mut Text, dummies: &List<Text>) -> Result<
     out.append(b")")
 }
 
-/// PROGRAM or SUBROUTINE, from column 7 on.
+fn function_word(form: FunctionForm) -> &'static [u8]
+    ensures { result.now ≡ function_word form }
+{
+    match form {
+        FunctionForm::Plain => b"FUNCTION ",
+        FunctionForm::Integer => b"INTEGER FUNCTION ",
+        FunctionForm::Logical => b"LOGICAL FUNCTION ",
+    }
+}
+
+fn head_word(function: Option<FunctionForm>) -> &'static [u8]
+    ensures { result.now ≡ head_word function }
+{
+    match function {
+        None => b"SUBROUTINE ",
+        Some(form) => function_word(form),
+    }
+}
+
+/// The dummies of a function without the last one, which is its own name.
+fn write_titled_dummies(alloc: Global, out: &mut Text, dummies: &List<Text>) -> Result<(), Memory>
+    ensures { OnOk result (out.new ≡ out.old ++ joined_by (λ n. n) (titled_dummies dummies.now)) }
+{
+    let list = dummies.as_slice();
+    write_row(alloc, out, &list[..list.len().saturating_sub(1)])
+}
+
+#[tactic(auto, using(crate::proofs::TextLemmas::char_steps))]
+fn write_function_dummies(alloc: Global, out: &mut Text, dummies: &List<Text>) -> Result<(), Memory>
+    ensures { OnOk result
+        (out.new ≡ out.old ++ codes "(" ++ joined_by (λ n. n) (titled_dummies dummies.now) ++ codes ")") }
+{
+    out.append(b"(")?;
+    write_titled_dummies(alloc, out, dummies)?;
+    out.append(b")")
+}
+
+fn write_head_dummies(
+    alloc: Global,
+    out: &mut Text,
+    function: Option<FunctionForm>,
+    dummies: &List<Text>,
+) -> Result<(), Memory>
+    ensures { OnOk result (out.new ≡ out.old ++ head_dummies function dummies.now) }
+{
+    match function {
+        None => write_dummies(alloc, out, dummies),
+        Some(_) => write_function_dummies(alloc, out, dummies),
+    }
+}
+
+/// PROGRAM, SUBROUTINE or FUNCTION, from column 7 on.
 #[tactic(auto, using(crate::proofs::TextLemmas::char_steps))]
 fn write_title(alloc: Global, out: &mut Text, module: &Module) -> Result<(), Memory>
     ensures { OnOk result (out.new ≡ out.old ++ title_text (module_tree «module».now)) }
@@ -45,9 +97,9 @@ fn write_title(alloc: Global, out: &mut Text, module: &Module) -> Result<(), Mem
         out.append(b"PROGRAM ")?;
         out.append(module.name.as_slice())
     } else {
-        out.append(b"SUBROUTINE ")?;
+        out.append(head_word(module.function))?;
         out.append(module.name.as_slice())?;
-        write_dummies(alloc, out, &module.dummies)
+        write_head_dummies(alloc, out, module.function, &module.dummies)
     }
 }
 

@@ -1,19 +1,39 @@
 -- The grammar of the executable statements that open and close no block (ANSI X3.9-1978 §10 to §12 and §15).
-use Rattle.std.specs.Prelude.{ℕ, List, length, Option, Some, None, ◌&&◌, if◌then◌else◌, nat_le, codes}
-use Rattle.f77_ast.specs.Trees.{WhatTree, assign, call, goto, continue, return, stop, print, read}
+use Rattle.std.specs.Prelude.{ℕ, List, [], ◌∷◌, length, Option, Some, None, ◌&&◌, if◌then◌else◌, nat_le, codes}
+use Rattle.f77_ast.specs.Trees.{ExprTree, element, no_exprs, WhatTree, assign, call, goto, continue, return, stop, print, read}
 use Rattle.f77_ast.specs.Plain.{exprs_of}
 use Rattle.f77_exprs.specs.Words.{before}
-use Rattle.f77_exprs.specs.State.{Reader, parse_word, or_else, ◌>>=◌}
+use Rattle.f77_exprs.specs.State.{State, Reader, parse_word, or_else, ◌>>=◌}
 use Rattle.f77_exprs.specs.Lexical.{name_at, label_at, digit_first, skip_digits, constant}
 use Rattle.f77_exprs.specs.Grammar.{expression, variable}
 use Rattle.f77_statements.specs.Lists.{or_end, items_left, maybe_in_parentheses, maybe_after_comma}
 
--- v=e
+-- what is read where nothing is left behind it
+abbrev pub at_end : {A : Type 0} → A → State → List ℕ → Option (A × State)
+at_end a s [] = Some (a, s)
+at_end a s (c ∷ cs) = None
+
+-- F(), a function without actual arguments, where nothing is left behind it
+unfoldable pub empty_call : Reader ExprTree
+empty_call s = do
+  n ← name_at s
+  t ← parse_word (codes "()") n.1
+  at_end (element n.0 no_exprs) t t.rest
+
+-- one reading, or another where it gives nothing
+abbrev pub or_other : {A : Type 0} → Option A → Option A → Option A
+or_other (Some a) other = Some a
+or_other None other = other
+
+unfoldable pub right_side : Reader ExprTree
+right_side s = or_other (expression s) (empty_call s)
+
+-- v=e and v=F()
 unfoldable pub assignment : Reader WhatTree
 assignment s = do
   v ← variable s
   t ← parse_word (codes "=") v.1
-  e ← expression t
+  e ← right_side t
   Some (assign v.0 e.0, e.1)
 
 -- CALLn[([a,..])]

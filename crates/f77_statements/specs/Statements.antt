@@ -1,12 +1,14 @@
 -- The grammar of the other forms, and of each statement by its form.
 use Rattle.std.specs.Prelude.{ℕ, List, Option, Some, None, Result, Ok, Err, if◌then◌else◌, codes}
+use Rattle.f77_ast.specs.declared.module.FunctionForm.{FunctionForm}
+use Rattle.f77_ast.specs.declared.module.FunctionForm.TheVariants as forms
 use Rattle.f77_ast.specs.Trees.{ExprTree, WhatTree}
 use Rattle.f77_ast.specs.DeclTrees.{DeclTree}
 use Rattle.f77_exprs.specs.State.{start, Reader, parse_word, or_done, ◌>>=◌}
 use Rattle.f77_exprs.specs.Lexical.{name_at, label_at, digit_first}
 use Rattle.f77_exprs.specs.Grammar.{expression}
 use Rattle.f77_forms.specs.declared.form.FormId.{FormId}
-use Rattle.f77_forms.specs.declared.form.FormId.TheVariants.{Program, Subroutine, Implicit, Integer, Logical, Dimension, Parameter, Common, Equivalence, Save, Data, Assignment, LogicalIf, BlockIf, ElseIf, Else, EndIf, Do, EndDo, Continue, Return, End, Goto, Call, Stop, Print, Write, Read}
+use Rattle.f77_forms.specs.declared.form.FormId.TheVariants.{Program, Subroutine, Function, IntegerFunction, LogicalFunction, Implicit, Integer, Logical, Dimension, Parameter, Common, Equivalence, Save, Data, Assignment, LogicalIf, BlockIf, ElseIf, Else, EndIf, Do, DoWhile, EndDo, Continue, Return, End, Goto, Call, Stop, Print, Write, Read}
 use Rattle.f77_forms.specs.declared.choice.Choice.{Choice}
 use Rattle.f77_forms.specs.declared.choice.Choice.TheVariants.{Chosen, OutOfProfile, Syntax}
 use Rattle.f77_forms.specs.Choice.{choice_of}
@@ -14,8 +16,8 @@ use Rattle.f77_forms.specs.Profile.{profile}
 use Rattle.f77_statements.specs.declared.refusal.Cause.{Cause}
 use Rattle.f77_statements.specs.declared.refusal.Cause.TheVariants as causes
 use Rattle.f77_statements.specs.Causes.{verdict}
-use Rattle.f77_statements.specs.Lists.{ending, skip_comma, maybe_in_parentheses}
-use Rattle.f77_statements.specs.Phrases.{PhraseTree, program, subroutine, specification, simple, logical_if, block_if, else_if, else_part, end_if, do_head, end_do, end_module}
+use Rattle.f77_statements.specs.Lists.{ending, skip_comma, in_parentheses, maybe_in_parentheses}
+use Rattle.f77_statements.specs.Phrases.{PhraseTree, program, subroutine, function, specification, simple, logical_if, block_if, else_if, else_part, end_if, do_head, while_head, end_do, end_module}
 use Rattle.f77_statements.specs.Specifications.{implicit_statement, integer_statement, logical_statement, dimension_statement, parameter_statement, common_statement, equivalence_statement, save_statement, data_statement}
 use Rattle.f77_statements.specs.Executables.{assignment, call_statement, goto_statement, continue_statement, return_statement, stop_statement, print_statement, write_statement, read_statement}
 
@@ -34,6 +36,15 @@ subroutine_statement s = do
   n ← name_at t
   ds ← maybe_in_parentheses name_at n.1
   Some (subroutine n.0 ds.0, ds.1)
+
+-- FUNCTIONn([d,..]) alone, or behind INTEGER or LOGICAL
+unfoldable pub function_statement : List ℕ → FunctionForm → Reader PhraseTree
+function_statement word form s = do
+  t ← parse_word word s
+  n ← name_at t
+  u ← parse_word (codes "(") n.1
+  ds ← in_parentheses name_at u
+  Some (function form n.0 ds.0, ds.1)
 
 -- ---- IF
 
@@ -128,6 +139,15 @@ do_statement s = do
   l ← terminal t
   range l.0 l.1
 
+-- DO[l[,]]WHILE(e)
+unfoldable pub while_statement : Reader PhraseTree
+while_statement s = do
+  t ← parse_word (codes "DO") s
+  l ← terminal t
+  u ← parse_word (codes "WHILE(") l.1
+  e ← if_test u
+  Some (while_head l.0 e.0, e.1)
+
 -- ---- each form
 
 -- a word alone
@@ -144,6 +164,9 @@ simply R s = R s >>= λ w. Some (simple w.0, w.1)
 abbrev pub phrase_by : FormId → Reader PhraseTree
 phrase_by Program = program_statement
 phrase_by Subroutine = subroutine_statement
+phrase_by Function = function_statement (codes "FUNCTION") forms.Plain
+phrase_by IntegerFunction = function_statement (codes "INTEGERFUNCTION") forms.Integer
+phrase_by LogicalFunction = function_statement (codes "LOGICALFUNCTION") forms.Logical
 phrase_by Implicit = specified implicit_statement
 phrase_by Integer = specified integer_statement
 phrase_by Logical = specified logical_statement
@@ -160,6 +183,7 @@ phrase_by ElseIf = else_if_statement
 phrase_by Else = alone (codes "ELSE") else_part
 phrase_by EndIf = alone (codes "ENDIF") end_if
 phrase_by Do = do_statement
+phrase_by DoWhile = while_statement
 phrase_by EndDo = alone (codes "ENDDO") end_do
 phrase_by Continue = simply continue_statement
 phrase_by Return = simply return_statement

@@ -1,16 +1,17 @@
-//! PROGRAM and SUBROUTINE, IF and DO. A reader takes a stripped statement from its front, and its Err is `Syntax` where the
+//! PROGRAM, SUBROUTINE and FUNCTION, IF, DO and DO WHILE. A reader takes a stripped statement from its front, and its Err is `Syntax` where the
 //! text is not of the form; in a form `[..]` need not be there.
-ghost use Rattle.std.specs.Prelude.{◌≡◌, ◌≤◌, ℕ, length, option_map, IfOk};
+ghost use Rattle.std.specs.Prelude.{◌≡◌, ◌≤◌, ℕ, length, option_map, codes, IfOk};
+ghost use Rattle.f77_ast.specs.declared.module.FunctionForm.TheVariants.{Plain, Integer, Logical};
 ghost use Rattle.f77_ast.specs.Plain.{expr_tree};
 ghost use Rattle.f77_ast.specs.PlainStmt.{maybe_tree};
 ghost use Rattle.f77_exprs.specs.State.{state, GivesAs, GivesExpr};
 ghost use Rattle.f77_statements.specs.Phrases.{phrase_tree, do_tree};
-ghost use Rattle.f77_statements.specs.Statements.{program_statement, subroutine_statement, if_test, block_if_statement, else_if_statement, terminal, some_step, step, range, do_statement};
+ghost use Rattle.f77_statements.specs.Statements.{program_statement, subroutine_statement, function_statement, if_test, block_if_statement, else_if_statement, terminal, some_step, step, range, do_statement, while_statement};
 
-use crate::lists::{maybe_in_parentheses, skip_comma};
+use crate::lists::{in_parentheses, maybe_in_parentheses, skip_comma};
 use crate::parts::NameList;
 use crate::phrase::{DoHead, Phrase};
-use f77_ast::Expr;
+use f77_ast::{Expr, FunctionForm};
 use f77_exprs::{Cursor, Reading, digit_first, expression, label_at, name_at};
 use std::alloc::Global;
 
@@ -33,6 +34,44 @@ pub fn subroutine_statement(alloc: Global, at: Cursor<'_>) -> Reading<'_, Phrase
     let (name, at) = name_at(alloc, at)?;
     let (dummies, at) = maybe_in_parentheses::<NameList>(alloc, at)?;
     Ok((Phrase::Subroutine(name, dummies), at))
+}
+
+/// `FUNCTIONn([d,..])`, after INTEGER or LOGICAL or without a type: `word` is all of this before the name (§15.5.1).
+#[tactic(auto, unfolding(crate::specs::Statements::function_statement))]
+fn function_by<'a>(
+    alloc: Global,
+    word: &[u8],
+    form: FunctionForm,
+    at: Cursor<'a>,
+) -> Reading<'a, Phrase>
+    ensures { GivesAs phrase_tree result (function_statement word.now form (state at.entry)) }
+{
+    let at = at.need_word(word)?;
+    let (name, at) = name_at(alloc, at)?;
+    let at = at.need_word(b"(")?;
+    let (dummies, at) = in_parentheses::<NameList>(alloc, at)?;
+    Ok((Phrase::Function(form, name, dummies), at))
+}
+
+/// `FUNCTIONn([d,..])` (§15.5.1)
+pub fn function_statement(alloc: Global, at: Cursor<'_>) -> Reading<'_, Phrase>
+    ensures { GivesAs phrase_tree result (function_statement (codes "FUNCTION") Plain (state at.entry)) }
+{
+    function_by(alloc, b"FUNCTION", FunctionForm::Plain, at)
+}
+
+/// `INTEGERFUNCTIONn([d,..])`
+pub fn integer_function_statement(alloc: Global, at: Cursor<'_>) -> Reading<'_, Phrase>
+    ensures { GivesAs phrase_tree result (function_statement (codes "INTEGERFUNCTION") Integer (state at.entry)) }
+{
+    function_by(alloc, b"INTEGERFUNCTION", FunctionForm::Integer, at)
+}
+
+/// `LOGICALFUNCTIONn([d,..])`
+pub fn logical_function_statement(alloc: Global, at: Cursor<'_>) -> Reading<'_, Phrase>
+    ensures { GivesAs phrase_tree result (function_statement (codes "LOGICALFUNCTION") Logical (state at.entry)) }
+{
+    function_by(alloc, b"LOGICALFUNCTION", FunctionForm::Logical, at)
 }
 
 /// The test of an IF from after its opening parenthesis, and what follows the closing one.
@@ -98,6 +137,18 @@ fn step(alloc: Global, at: Cursor<'_>) -> Reading<'_, Option<Expr>>
         None => Ok((None, at)),
         Some(rest) => some_step(alloc, rest),
     }
+}
+
+/// `DO[l[,]]WHILE(e)`: without a label it ends at an END DO, with one as a DO does
+#[tactic(auto, unfolding(crate::specs::Statements::while_statement))]
+pub fn while_statement(alloc: Global, at: Cursor<'_>) -> Reading<'_, Phrase>
+    ensures { GivesAs phrase_tree result (while_statement (state at.entry)) }
+{
+    let at = at.need_word(b"DO")?;
+    let (label, at) = terminal(at)?;
+    let at = at.need_word(b"WHILE(")?;
+    let (tree, at) = if_test(alloc, at)?;
+    Ok((Phrase::While(label, tree), at))
 }
 
 /// The index of a DO and its values.

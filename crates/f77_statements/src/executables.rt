@@ -2,27 +2,52 @@
 //! `Syntax` where the text is not of the form; in a form `[..]` need not be there.
 ghost use Rattle.std.specs.Prelude.{◌≡◌, ℕ};
 ghost use Rattle.f77_ast.specs.PlainStmt.{what_tree};
-ghost use Rattle.f77_exprs.specs.State.{state, GivesAs};
-ghost use Rattle.f77_statements.specs.Executables.{assignment, call_statement, goto_statement, continue_statement, return_statement, five_digits, message, stop_text, stop_statement, print_statement, write_list, write_statement, read_listed, read_left, read_statement};
+ghost use Rattle.f77_exprs.specs.State.{state, GivesAs, GivesExpr};
+ghost use Rattle.f77_statements.specs.Executables.{empty_call, right_side, assignment, call_statement, goto_statement, continue_statement, return_statement, five_digits, message, stop_text, stop_statement, print_statement, write_list, write_statement, read_listed, read_left, read_statement};
 
 use crate::lists::{items_left, maybe_after_comma, maybe_in_parentheses};
 use crate::parts::{Expressions, Variables};
-use f77_ast::What;
+use f77_ast::{Expr, What};
 use f77_exprs::{
     Cursor, ParseError, Reading, before, constant, digit_first, expression, label_at, name_at,
     skip_digits, variable,
 };
-use fx_lists::Text;
+use fx_lists::{List, Text};
 use std::alloc::Global;
 
-/// `v=e` (ANSI X3.9-1978 §10.1, §10.2)
+/// `F()` up to the end of the statement: a function without actual arguments (ANSI X3.9-1978 §15.2.1).
+#[tactic(auto, using(f77_ast::proofs::Plainly::expr_cases), unfolding(crate::specs::Executables::empty_call))]
+fn empty_call(alloc: Global, at: Cursor<'_>) -> Reading<'_, Expr>
+    ensures { GivesExpr result (empty_call (state at.entry)) }
+{
+    let (name, at) = name_at(alloc, at)?;
+    let at = at.need_word(b"()")?;
+    match at.rest {
+        [] => Ok((Expr::Element(name, List::new(alloc)), at)),
+        [_, ..] => Err(ParseError::Syntax),
+    }
+}
+
+/// What follows the `=` of an assignment: an expression, or a function without actual arguments.
+#[tactic(auto, unfolding(crate::specs::Executables::right_side))]
+fn right_side(alloc: Global, at: Cursor<'_>) -> Reading<'_, Expr>
+    ensures { GivesExpr result (right_side (state at.entry)) }
+{
+    match expression(alloc, at) {
+        Ok(read) => Ok(read),
+        Err(ParseError::Syntax) => empty_call(alloc, at),
+        Err(ParseError::Memory) => Err(ParseError::Memory),
+    }
+}
+
+/// `v=e` and `v=F()` (ANSI X3.9-1978 §10.1, §10.2)
 #[tactic(auto, using(f77_ast::proofs::PlainlyStmt::what_cases), unfolding(crate::specs::Executables::assignment))]
 pub fn assignment(alloc: Global, at: Cursor<'_>) -> Reading<'_, What>
     ensures { GivesAs what_tree result (assignment (state at.entry)) }
 {
     let (left, at) = variable(alloc, at)?;
     let at = at.need_word(b"=")?;
-    let (value, at) = expression(alloc, at)?;
+    let (value, at) = right_side(alloc, at)?;
     Ok((What::Assign(left, value), at))
 }
 

@@ -132,7 +132,7 @@ pub fn items_left<'a, R: Rule>(alloc: Global, at: Cursor<'a>) -> Reading<'a, Lis
 
 /// Items behind their opening parenthesis, of which there may be none.
 #[tactic(auto, unfolding(crate::specs::Lists::in_parentheses))]
-fn in_parentheses<'a, R: Rule>(alloc: Global, at: Cursor<'a>) -> Reading<'a, List<R::Value>>
+pub fn in_parentheses<'a, R: Rule>(alloc: Global, at: Cursor<'a>) -> Reading<'a, List<R::Value>>
     ensures { GivesAs (map R.tree) result (in_parentheses R.rule (state at.entry)) }
 {
     match at.parse_word(b")") {

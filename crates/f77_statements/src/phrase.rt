@@ -1,5 +1,5 @@
 //! A statement by itself, before it has a place in a module.
-use f77_ast::{Decl, Expr, What};
+use f77_ast::{Decl, Expr, FunctionForm, What};
 use fx_lists::{List, Text};
 
 /// A DO without its body: the label of its last statement where it has one, the DO variable, and the values (ANSI X3.9-1978
@@ -21,6 +21,8 @@ pub enum Phrase {
     Program(Text),
     /// The name and the dummies.
     Subroutine(Text, List<Text>),
+    /// How its type is given, the name and the dummies, without the result.
+    Function(FunctionForm, Text, List<Text>),
     Decl(Decl),
     Simple(What),
     /// The test, and what the statement after it does.
@@ -32,6 +34,8 @@ pub enum Phrase {
     Else,
     EndIf,
     Do(DoHead),
+    /// The label of the last statement of a DO WHILE where it has one, and the test.
+    While(Option<u32>, Expr),
     EndDo,
     End,
 }

@@ -7,8 +7,9 @@ ghost use Rattle.f77_statements.specs.Statements.{what_by, form_at, what_at, log
 ghost use Rattle.f77_statements.specs.Gives.{Gives, ForRead};
 
 use crate::blocks::{
-    block_if_statement, do_statement, else_if_statement, if_test, program_statement,
-    subroutine_statement,
+    block_if_statement, do_statement, else_if_statement, function_statement, if_test,
+    integer_function_statement, logical_function_statement, program_statement,
+    subroutine_statement, while_statement,
 };
 use crate::executables::{
     assignment, call_statement, continue_statement, goto_statement, print_statement,
@@ -42,6 +43,9 @@ fn what_by(alloc: Global, form: FormId, at: Cursor<'_>) -> Reading<'_, What>
         FormId::Read => read_statement(alloc, at),
         FormId::Program
         | FormId::Subroutine
+        | FormId::Function
+        | FormId::IntegerFunction
+        | FormId::LogicalFunction
         | FormId::Implicit
         | FormId::Integer
         | FormId::Logical
@@ -57,6 +61,7 @@ fn what_by(alloc: Global, form: FormId, at: Cursor<'_>) -> Reading<'_, What>
         | FormId::Else
         | FormId::EndIf
         | FormId::Do
+        | FormId::DoWhile
         | FormId::EndDo
         | FormId::End => Err(ParseError::Syntax),
     }
@@ -139,10 +144,14 @@ fn phrase_by(alloc: Global, form: FormId, at: Cursor<'_>) -> Reading<'_, Phrase>
         itself {
             Program = program_statement,
             Subroutine = subroutine_statement,
+            Function = function_statement,
+            IntegerFunction = integer_function_statement,
+            LogicalFunction = logical_function_statement,
             LogicalIf = logical_if_statement,
             BlockIf = block_if_statement,
             ElseIf = else_if_statement,
-            Do = do_statement
+            Do = do_statement,
+            DoWhile = while_statement
         }
         Decl {
             Implicit = implicit_statement,

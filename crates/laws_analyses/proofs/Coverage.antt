@@ -19,7 +19,7 @@ use Rattle.laws_programs.specs.Storage.Programs.{IsLinked, IsModule, known}
 use Rattle.laws_programs.specs.Programs.{IsProgram}
 use Rattle.laws_programs.proofs.Sources.{all_built}
 use Rattle.laws_programs.proofs.Tables.{programs_are_linked}
-use Rattle.laws_programs.proofs.Whole.{numbers_go_up}
+use Rattle.laws_programs.proofs.Whole.{bodies_numbered}
 use Rattle.laws_analyses.specs.Statements.Laws.{HaveOwnNumbers}
 use Rattle.f77_ast.specs.StatementNumbers.{HasNumbers, list_numbers}
 use Rattle.laws_analyses.specs.Statements.Results.{found_in}
@@ -32,7 +32,6 @@ use Rattle.laws_analyses.specs.Laws.{AnalysesAreWhole}
 use Rattle.laws_analyses.specs.Results.{callees_of_all, analysed_entry}
 use Rattle.laws_analyses.proofs.Analyses.{Fronted, fronted, in_order_found, analyses_are, analysis_of_module, Located, all_located, holds_are}
 use Rattle.laws_analyses.proofs.Founds.{found_in_order}
-use Rattle.laws_programs.proofs.Numbers.{has_numbers}
 use Rattle.laws_analyses.proofs.Orders.{NotIn, order_sorted}
 use Rattle.laws_analyses.proofs.Passes.{run}
 use Rattle.laws_analyses.proofs.UnitLaws.{ModuleAt, module_at}
@@ -155,4 +154,4 @@ module _ (ps : List ParsedTree) (sss : List (List SymbolTree)) (g : Graph) (l : 
 pub analyses_are_whole : AnalysesAreWhole
 analyses_are_whole ps sss g x =
     are_whole ps sss g (programs_are_linked ps sss g x).0
-    (λ i p ss m. has_numbers p.module_read.body (numbers_go_up x.lines ps x.parsed i p m.parsed))
+    (λ i p ss m. bodies_numbered x.lines ps x.parsed i p m.parsed)

@@ -26,6 +26,8 @@ use Rattle.f77_checks.specs.Parameters.{Valued, given_typed, given_const_value, 
 use Rattle.laws_programs.specs.roundtrip_programs.Statements.Formed.{Each}
 use Rattle.laws_programs.specs.roundtrip_programs.Statements.Declared.{IsSetting}
 use Rattle.laws_programs.specs.roundtrip_programs.Statements.Phrased.{IsPhrase}
+use Rattle.f77_parser.specs.Elaborated.{meant_in}
+use Rattle.laws_programs.specs.roundtrip_programs.ModuleTexts.Folded.{folded}
 use Rattle.laws_programs.specs.roundtrip_programs.ModuleTexts.Cards.{card, title_cards, decl_cards, cards_in, statements_of}
 use Rattle.storage_layout.specs.Symbols.{symbols_of, valued}
 use Rattle.storage_layout.specs.Table.{scalar_of}
@@ -117,8 +119,9 @@ decls_fit at (d ∷ ds) n v f h = decls_fit at ds (n + 1) (decl_valued d (line_o
 decls_formed : (m : ModuleTree) → AllFormed (statements_of m) → AllFormed (decl_cards 0 m.decls)
 unfolding statements_of
 decls_formed m h =
-    let all = (split (title_cards m ++ decl_cards 0 m.decls ++ cards_in m.body) (card parts.End None end_module ∷ []) h).0 in
-    let front = (split (title_cards m ++ decl_cards 0 m.decls) (cards_in m.body) all).0 in
+    let body = cards_in (meant_in m).is_while (folded m).body in
+    let all = (split (title_cards m ++ decl_cards 0 m.decls ++ body) (card parts.End None end_module ∷ []) h).0 in
+    let front = (split (title_cards m ++ decl_cards 0 m.decls) body all).0 in
     (split (title_cards m) (decl_cards 0 m.decls) front).1
 
 values_fit : (p : ParsedTree) → IsBuilt p → AllFound ValueFits (names_in p).entries

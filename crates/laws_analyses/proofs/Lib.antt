@@ -12,8 +12,9 @@ pub mod Members
 pub mod Sizes
 pub mod Steps
 pub mod Insides
-mod Leading
-mod WholeJumps
+pub mod LabelBounds
+pub mod Leading
+pub mod WholeJumps
 pub mod DummyLaws
 pub mod NameLaws
 pub mod UnitLaws

@@ -34,7 +34,7 @@ use Rattle.laws_programs.specs.Storage.ScopeLaws.{IsScopeOf, FlagsTellCells, Dat
 use Rattle.laws_programs.specs.Effects.Tables.{HasNoDummy, DummiesLead}
 use Rattle.laws_programs.specs.Effects.Tables as given
 use Rattle.laws_programs.specs.Programs.{AreTables, IsProgram}
-use Rattle.laws_programs.specs.Laws.{ModulesAreRead, NumbersGoUp, ProgramsAreLinked}
+use Rattle.laws_programs.specs.Laws.{ModulesAreRead, ProgramsAreLinked}
 use Rattle.laws_programs.proofs.Sources.{IsBuilt, all_built}
 use Rattle.affine_forms.specs.Scalars.{is_cell}
 use Rattle.preconditions.specs.call_translation.Scopes.{ScopeTree}
@@ -48,7 +48,7 @@ use Rattle.laws_analyses.specs.Statements.Laws.{scope_of, no_callees, is_dummy, 
 use Rattle.laws_analyses.specs.ScalarLaws.{AcceptedDataStaysInLocals, NamesAgree, MainsAreAlone, ResultsHold, ReadMainsHold}
 use Rattle.laws_analyses.proofs.ThroughoutLaws.{throughout_more}
 use Rattle.laws_analyses.proofs.MainCallees.{callees_aside}
-use Rattle.laws_programs.proofs.Numbers.{has_numbers}
+use Rattle.laws_programs.proofs.Whole.{bodies_numbered}
 use Rattle.laws_analyses.proofs.TargetLaws.{body_lacks_none}
 use Rattle.f77_meaning.proofs.LinkedLaws.{passed}
 use Rattle.laws_programs.proofs.Effects.Once.{main_of_linked as some_main}
@@ -122,7 +122,7 @@ cell_alone names ss us (place.Constant v) d h f = cc
 
 -- ---- programs
 
-module _ (names_agree : NamesAgree) (data_lies : AcceptedDataStaysInLocals) (are_read : ModulesAreRead) (go_up : NumbersGoUp) (are_linked : ProgramsAreLinked) (are_shaped : BodiesAreShaped) (tell : FlagsTellCells) (are_scalars : CellsAreScalars) (begin : DataInitialisesScalars) (common_alone : CommonCellsAreAlone) (have_blocks : LinkedHaveBlocks) where
+module _ (names_agree : NamesAgree) (data_lies : AcceptedDataStaysInLocals) (are_read : ModulesAreRead) (are_linked : ProgramsAreLinked) (are_shaped : BodiesAreShaped) (tell : FlagsTellCells) (are_scalars : CellsAreScalars) (begin : DataInitialisesScalars) (common_alone : CommonCellsAreAlone) (have_blocks : LinkedHaveBlocks) where
   module _ (ps : List ParsedTree) (sss : List (List SymbolTree)) (g : Graph) (x : IsProgram ps sss g) (r : MainOf ps sss) where
     abbrev p : ParsedTree
     p = r.parsed
@@ -181,11 +181,11 @@ module _ (names_agree : NamesAgree) (data_lies : AcceptedDataStaysInLocals) (are
           is_main = r.is_main;
           blocks = have_blocks ps sss g linked.many x.links;
           no_call = c;
-          targets = body_lacks_none ss p.module_read built.well.body built.formed (are_shaped p ss table);
+          targets = body_lacks_none ss p.module_read built.well built.formed (are_shaped p ss table);
           no_dummy = has_none ss none;
           cells = cell;
           agrees = names_agree p ss g.untracked table;
-          numbered = has_numbers p.module_read.body (go_up x.lines ps x.parsed r.at p r.is_module.parsed);
+          numbered = bodies_numbered x.lines ps x.parsed r.at p r.is_module.parsed;
           values = first_value;
         }
 

@@ -11,10 +11,9 @@ use Rattle.laws_programs.specs.Storage.Programs.{IsModule}
 use Rattle.laws_programs.specs.Programs.{IsProgram}
 use Rattle.laws_programs.proofs.Sources.{all_built}
 use Rattle.laws_programs.proofs.Tables.{programs_are_linked}
-use Rattle.laws_programs.proofs.Whole.{numbers_go_up}
+use Rattle.laws_programs.proofs.Whole.{bodies_numbered}
 use Rattle.laws_analyses.specs.ScalarLaws.{NamesAgree, AcceptedDataStaysInLocals}
 use Rattle.laws_analyses.proofs.MainLaws.{built_at}
-use Rattle.laws_programs.proofs.Numbers.{has_numbers}
 use Rattle.laws_analyses.proofs.Programs.{Ready}
 use Rattle.laws_analyses.proofs.Subscripts.{built_have}
 use Rattle.laws_analyses.proofs.TargetLaws.{body_lacks_none}
@@ -45,9 +44,9 @@ module _ (names : NamesAgree) (stays : JumpsStayInside) (ps : List ParsedTree) (
       let built = built_at ps (all_built x.lines ps x.parsed) i p m.parsed in
       record {
         agrees = names p ss g.untracked table;
-        stays = stays x.lines ps x.parsed i p m.parsed;
-        numbered = has_numbers p.module_read.body (numbers_go_up x.lines ps x.parsed i p m.parsed);
-        targets = body_lacks_none ss p.module_read built.well.body built.formed (bodies_are_shaped p ss table);
+        stays = stays x.lines x.labelled ps x.parsed i p m.parsed;
+        numbered = bodies_numbered x.lines ps x.parsed i p m.parsed;
+        targets = body_lacks_none ss p.module_read built.well built.formed (bodies_are_shaped p ss table);
       }
 
   pub ready : (i : ℕ) (p : ParsedTree) (ss : List SymbolTree) → IsModule ps sss i p ss → Ready g p ss

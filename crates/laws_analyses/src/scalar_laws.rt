@@ -5,7 +5,7 @@ use crate::main_holds;
 use f77_meaning::{common_cells_are_alone, linked_have_blocks};
 use laws_programs::{
     bodies_are_shaped, cells_are_scalars, data_initialises_scalars, data_stays_in_locals,
-    flags_tell_cells, modules_are_read, numbers_go_up, programs_are_linked,
+    flags_tell_cells, modules_are_read, programs_are_linked,
 };
 
 /// The number of a LOGICAL constant is 0 or 1.
@@ -40,7 +40,6 @@ pub fn mains_are_alone()
     names_agree();
     accepted_data_stays_in_locals();
     modules_are_read();
-    numbers_go_up();
     programs_are_linked();
     bodies_are_shaped();
     flags_tell_cells();

@@ -15,6 +15,7 @@ use Rattle.affine_systems.proofs.FitLaws.{IsTidy, tidy_small, small_given}
 use Rattle.system_text.specs.SystemText.{is_never, are_never}
 use Rattle.f77_ast.specs.Trees.{StmtTree, WhatTree, ArmTree, ArmTrees, ElseTree, LoopTree, StmtTrees}
 use Rattle.f77_ast.specs.Trees as tree
+use Rattle.f77_ast.specs.Hidden.{is_hidden}
 use Rattle.f77_ast.specs.declared.variable.Unit.{Unit as BlockUnit}
 use Rattle.f77_printer.specs.declared.added.Added.{Added}
 use Rattle.f77_meaning.specs.Modules.{Known, symbol_names}
@@ -24,7 +25,7 @@ use Rattle.preconditions.specs.transformer_algebra.Cells.{has}
 use Rattle.preconditions.specs.transformers.Lists.{value_at}
 use Rattle.system_text.specs.Printed.{AreNames, IsNumber, AreNumbers, IsNamed, AreNamed, IsOfNames, IsOrdered}
 use Rattle.system_text.proofs.LinesBack.{precondition_lines_read_back, transformer_lines_read_back}
-use Rattle.result_lines.specs.ScalarLines.{Said, holds_lines, changes_lines, does_lines, says_changes, own_lines, stmt_lines, part_lines, list_lines, arms_lines, arm_lines, else_lines, loop_lines, entry_lines, said, scalar_lines_of}
+use Rattle.result_lines.specs.ScalarLines.{Said, holds_lines, changes_lines, does_lines, says_changes, visible_lines, own_lines, stmt_lines, part_lines, list_lines, arms_lines, arm_lines, else_lines, loop_lines, entry_lines, said, scalar_lines_of}
 use Rattle.loop_marker.specs.module_phases.ScalarPhases.{Analysis, scope_of}
 use Rattle.laws_lines.specs.Variables.{EachVar, IsCellOf}
 use Rattle.laws_lines.specs.Halves.{IsHalfOf}
@@ -146,11 +147,18 @@ module _ (names : List (List ℕ)) (ok : ℕ → Type 0) (numbered : (n : ℕ) �
         go None e = tt
         go (Some t) e = changes_mean n t (own n t e) (inl e) t.cells refl
 
-    own_mean : (n : ℕ) (w : WhatTree) → Means (own_lines n w k)
-    own_mean n w = means-append (holds_lines names n (value_at a.holds.at n)) (if says_changes w then does_lines names n (value_at a.found.own.at n) else []) (holds_mean n) (go (says_changes w))
+    visible_mean : (n : ℕ) (w : WhatTree) → Means (visible_lines n w k)
+    visible_mean n w = means-append (holds_lines names n (value_at a.holds.at n)) (if says_changes w then does_lines names n (value_at a.found.own.at n) else []) (holds_mean n) (go (says_changes w))
       where
         go : (b : Bool) → Means (if b then does_lines names n (value_at a.found.own.at n) else [])
         go true = does_mean n
+        go false = tt
+
+    own_mean : (n : ℕ) (w : WhatTree) → Means (own_lines n w k)
+    own_mean n w = go (not (is_hidden n))
+      where
+        go : (b : Bool) → Means (if b then visible_lines n w k else [])
+        go true = visible_mean n w
         go false = tt
 
     mutual

@@ -1,18 +1,17 @@
 -- Programs that are read: what is known of their marked loops in a run that comes to an end.
-use Rattle.std.proofs.Common.{◌≡◌, ℕ, ℤ, zero, suc, ◌<◌, List, [], ◌∷◌, ◌++◌, Option, Some, None, arith, true, false, append_assoc, append-nil, refl, sym, ap, ◌∙◌, subst}
-use Rattle.std.specs.Prelude.{All, map, reverse, slice_get}
-use mathlib.Core.List.{reverse-cons, map-append}
+use Rattle.std.proofs.Common.{◌≡◌, ℕ, ℤ, zero, suc, List, [], ◌∷◌, ◌++◌, Option, Some, arith, true, false, append_assoc, append-nil, refl, sym, ap, ◌∙◌, subst}
+use Rattle.std.specs.Prelude.{map, reverse, slice_get}
+use mathlib.Core.List.{map-append}
 use Rattle.f77_ast.specs.Trees.{LoopTree, StmtTrees, WhatTree}
 use Rattle.f77_ast.specs.Trees as tree
 use Rattle.f77_ast.specs.DeclTrees.{ParsedTree}
-use Rattle.f77_ast.specs.Store.{Content, Store}
 use Rattle.f77_ast.specs.Runs.{Event, Answer, Gave, Broke, Ran}
-use Rattle.f77_ast.specs.Places.{Variable, Places}
+use Rattle.f77_ast.specs.Places.{Variable}
 use Rattle.f77_ast.specs.Loops.{Range}
 use Rattle.f77_ast.specs.Plans.{Flow, Plan}
 use Rattle.f77_ast.specs.Writes.{Locks}
 use Rattle.f77_ast.specs.Executions.{run_of}
-use Rattle.f77_ast.specs.StatementNumbers.{list_numbers, HasNumbers}
+use Rattle.f77_ast.specs.StatementNumbers.{HasNumbers}
 use Rattle.f77_ast.specs.Statements.{do_plan}
 use Rattle.f77_ast.specs.Programs.{program_plan}
 use Rattle.f77_ast.specs.Symbols.{SymbolTree}
@@ -21,11 +20,10 @@ use Rattle.f77_ast.specs.declared.effect_set.EffectSet.{EffectSet}
 use Rattle.f77_ast.specs.declared.results.At.{At}
 use Rattle.f77_ast.specs.declared.results.Results.{Results}
 use Rattle.call_graph.specs.declared.graph.Graph.{Graph}
-use Rattle.in_out_regions.specs.effects.List.{Callees, at_list}
+use Rattle.in_out_regions.specs.effects.List.{Callees}
 use Rattle.in_out_regions.specs.effects.Modules.{cumulated_of}
 use Rattle.f77_meaning.specs.Modules.{Known, known_of, names, symbol_names}
 use Rattle.f77_meaning.specs.Linked.{program_of}
-use Rattle.f77_meaning.specs.Occurrences.{Occurrence}
 use Rattle.affine_forms.specs.Claims.{unit_in}
 use Rattle.preconditions.specs.transformer_algebra.Laws.{In}
 use Rattle.preconditions.specs.transformers.Lists.{value_at}
@@ -34,7 +32,7 @@ use Rattle.f77_ast.specs.declared.marks.Mark.TheVariants.{Parallel}
 use Rattle.loop_marker.specs.module_phases.ScalarPhases.{scope_of, analyses}
 use Rattle.loop_marker.specs.module_phases.RegionPhases.{all_regions}
 use Rattle.loop_marker.specs.module_phases.InPhases.{ModuleIns, all_ins}
-use Rattle.loop_marker.specs.module_phases.OutPhases.{ModuleOuts, with_outs, sites_of, name_of, outs_from, all_outs}
+use Rattle.loop_marker.specs.module_phases.OutPhases.{ModuleOuts, with_outs, sites_of, name_of, outs_from}
 use Rattle.loop_marker.specs.Results.{ModuleResults}
 use Rattle.loop_marker.specs.Phases.{phases_of, no_callees, with_callee, with_marks, found_in, all_marks}
 use Rattle.loop_marker.specs.dependence_test.Finding.{loop_in}
@@ -45,14 +43,12 @@ use Rattle.loop_marker.specs.out_regions.Leaving.{leaves}
 use Rattle.loop_marker.specs.privatizer.Names.{may_copy}
 use Rattle.laws_programs.specs.Effects.Claims.{EffectsHold, GivesEffect}
 use Rattle.laws_programs.specs.Effects.Laws.{AllHold}
-use Rattle.laws_programs.specs.Effects.Summaries.{before, no_summary, bottom_up}
-use Rattle.laws_programs.specs.Storage.Programs.{IsModule}
+use Rattle.laws_programs.specs.Effects.Summaries.{before, bottom_up}
 use Rattle.laws_programs.specs.Laws.{AllAreOfPrograms}
 use Rattle.laws_programs.specs.Programs.{IsProgram}
-use Rattle.laws_programs.proofs.Numbers.{has_numbers}
-use Rattle.laws_programs.proofs.Sources.{all_of}
+use Rattle.laws_programs.proofs.Sources.{all_read_of}
 use Rattle.laws_programs.proofs.Tables.{programs_are_linked}
-use Rattle.laws_programs.proofs.Whole.{numbers_go_up}
+use Rattle.laws_programs.proofs.Whole.{bodies_numbered}
 use Rattle.call_graph.specs.CallsIn.{Each}
 use Rattle.laws_programs.specs.roundtrip_programs.Statements.Formed.{Each as EachOf}
 use Rattle.laws_analyses.proofs.UnitLaws.{module_at}
@@ -64,17 +60,16 @@ use Rattle.laws_marks.specs.ConflictExecutions.{Execution, InEachExecution}
 use Rattle.laws_marks.specs.ConflictIterations.{Iteration, iterations}
 use Rattle.laws_marks.proofs.ConflictWhats.{list_whats, as_loop, each_found}
 use Rattle.laws_interleavings.specs.MarkedStatements.{MarkedScope, marked_loop}
-use Rattle.laws_marks.specs.MarkedBegun.{iterations_of}
 use Rattle.laws_marks.specs.MarkedFit.{HasPrivateUnits}
 use Rattle.laws_marks.specs.MarkedBegins.{Begins}
 use Rattle.laws_marks.specs.MarkedEnding.{IsQuietDo}
 use Rattle.laws_marks.proofs.MarkedEnding.{ends_quietly, loop_is_quiet}
 use Rattle.laws_marks.specs.Dead.{index_name}
-use Rattle.laws_marks.specs.Units.{UnitsStand, ModuleUnitsStand, index_in}
+use Rattle.laws_marks.specs.Units.{ModuleUnitsStand, index_in}
 use Rattle.laws_marks.specs.DeadLaws.{outs_of, AllUnitsStand, ReadUnitsStand}
-use Rattle.laws_marks.proofs.Marks.{list_marks, FoundAt, found_at}
+use Rattle.laws_marks.proofs.Marks.{list_marks, found_at}
 use Rattle.laws_marks.proofs.Own.{passing}
-use Rattle.laws_marks.specs.Verdicts.{IsCleared, SaysParallel}
+use Rattle.laws_marks.specs.Verdicts.{SaysParallel}
 use Rattle.laws_marks.specs.Known.{Finishes, LoopIsKnown, MarkedLoopIsKnown, AllMarkedLoopsAreKnown, ReadMarkedLoopsAreKnown}
 use Rattle.laws_marks.proofs.DoEffects.{DoIs}
 use Rattle.laws_marks.proofs.Effects.{GivenAt, IsCalm, DoIsCalm, dos_calm}
@@ -227,8 +222,8 @@ module _ (ps : List ParsedTree) (sss : List (List SymbolTree)) (g : Graph) (x : 
           let m = module_at ps sss h.at f.known h.is_module in
           record {
             made = h;
-            numbered = subst (λ (k : Known). HasNumbers k.read.body) m.same (has_numbers m.parsed.module_read.body (numbers_go_up x.lines ps x.parsed h.at m.parsed m.is_module.parsed));
-            beyond = subst (λ (k : Known). AllLeadBeyond k.read.body) m.same (at_place ps (all_of BodyLeads one_leads x.lines ps x.parsed) h.at m.parsed m.is_module.parsed);
+            numbered = subst (λ (k : Known). HasNumbers k.read.body) m.same (bodies_numbered x.lines ps x.parsed h.at m.parsed m.is_module.parsed);
+            beyond = subst (λ (k : Known). AllLeadBeyond k.read.body) m.same (at_place ps (all_read_of BodyLeads one_leads x.lines x.labelled ps x.parsed) h.at m.parsed m.is_module.parsed);
           }
 
   -- ---- what is known of modules, of the same ones with their marks

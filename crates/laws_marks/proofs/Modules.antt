@@ -23,9 +23,8 @@ use Rattle.loop_marker.specs.Phases.{phases_of, no_callees, with_callee, with_ma
 use Rattle.loop_marker.specs.module_phases.ScalarPhases.{Analysis, analyses, scope_of}
 use Rattle.loop_marker.specs.dependence_test.Finding.{loop_in}
 use Rattle.laws_programs.specs.Programs.{IsProgram}
-use Rattle.laws_programs.proofs.Numbers.{has_numbers}
 use Rattle.laws_programs.proofs.Tables.{programs_are_linked}
-use Rattle.laws_programs.proofs.Whole.{numbers_go_up}
+use Rattle.laws_programs.proofs.Whole.{bodies_numbered}
 use Rattle.call_graph.specs.CallsIn.{Each}
 use Rattle.laws_programs.specs.Storage.Programs.{IsLinked, known}
 use Rattle.laws_analyses.specs.Claims.{AnalysisHolds, AnalysesHold}
@@ -95,7 +94,7 @@ module _ (ps : List ParsedTree) (sss : List (List SymbolTree)) (g : Graph) (x : 
   one_stands front a rest e =
       let r = (each_back (Located ps sss g linked (analyses (known_of ps sss) g)) front (a ∷ rest) (subst (Each (Located ps sss g linked (analyses (known_of ps sss) g))) e (all_located ps sss g linked))).0 in
       let w = module_at ps sss r.good.at a.found.known r.good.is_module in
-      let body : HasNumbers (known w.parsed w.table).read.body = has_numbers w.parsed.module_read.body (numbers_go_up x.lines ps x.parsed r.good.at w.parsed w.is_module.parsed) in
+      let body : HasNumbers (known w.parsed w.table).read.body = bodies_numbered x.lines ps x.parsed r.good.at w.parsed w.is_module.parsed in
       record {
         tables = subst (λ (k : Known). TablesTell (known_of ps sss) g k) w.same (tables_tell ps sss g x copies linked (programs_are_linked ps sss g x).1 r.good.at w.parsed w.table w.is_module);
         is_in = record { at = r.good.at; is_module = r.good.is_module };

@@ -1,28 +1,29 @@
 -- Modules that are read have what their OUT regions ask.
-use Rattle.std.proofs.Common.{◌≡◌, ℕ, zero, suc, ◌≤◌, List, [], ◌∷◌, ◌++◌, true, Some, None, subst, arith}
+use Rattle.std.proofs.Common.{◌≡◌, ℕ, zero, suc, List, [], ◌∷◌, ◌++◌, true, Some, None, subst, arith}
 use Rattle.std.specs.Prelude.{slice_get}
 use Rattle.f77_ast.specs.DeclTrees.{ParsedTree}
 use Rattle.f77_statements.specs.Phrases.{end_module}
 use Rattle.f77_structure.specs.Checks.{fault_of}
 use Rattle.f77_parser.specs.Statements.{StatementTree, marks_of}
-use Rattle.f77_parser.specs.Building.{build_module}
+use Rattle.f77_parser.specs.Building.{written_module, build_module}
+use Rattle.f77_parser.specs.Elaborated.{meant_in, elaborated}
 use Rattle.f77_ast.specs.Symbols.{SymbolTree}
 use Rattle.call_graph.specs.declared.graph.Graph.{Graph}
 use Rattle.f77_meaning.specs.Modules.{known_of}
 use Rattle.affine_systems.specs.declared.row.System.{System}
 use Rattle.preconditions.specs.transformers.Given.{Callees}
 use Rattle.laws_programs.specs.roundtrip_programs.Statements.Formed.{Each}
-use Rattle.laws_programs.specs.roundtrip_programs.ModuleTexts.Cards.{cards_in}
-use Rattle.laws_programs.specs.roundtrip_programs.ModuleTexts.ModuleLaws.{IsStatement}
+use Rattle.laws_programs.specs.roundtrip_programs.ModuleTexts.ModuleLaws.{IsStatement, IsRead}
+use Rattle.laws_programs.proofs.RoundtripPrograms.ModuleTexts.Each.{each-map}
+use Rattle.laws_programs.proofs.RoundtripPrograms.ModuleTexts.Built.{written_well}
 use Rattle.laws_programs.proofs.RoundtripPrograms.ModuleTexts.JumpsAgain.{all_reach_there}
-use Rattle.laws_programs.proofs.RoundtripPrograms.ModuleTexts.Tally.{count_of}
 use Rattle.laws_programs.proofs.RoundtripPrograms.ModuleTexts.Writing.{few_stand}
 use Rattle.laws_programs.specs.Programs.{IsProgram}
 use Rattle.laws_programs.specs.Storage.Programs.{IsLinked, IsModule, known}
-use Rattle.laws_programs.proofs.Ordered.{body_ordered}
-use Rattle.laws_programs.proofs.Sources.{is_built, all_of}
+use Rattle.laws_programs.proofs.Sources.{all_read_of}
 use Rattle.laws_analyses.specs.Parts.{part_of}
 use Rattle.laws_analyses.proofs.Sizes.{goings_few}
+use Rattle.laws_analyses.proofs.WholeJumps.{written_ordered, labels_bounded}
 use Rattle.laws_marks.specs.OutLabels.{IsOutward, StmtsOutward}
 use Rattle.laws_marks.specs.OutPrograms.{OutPart}
 use Rattle.laws_marks.proofs.Outward.{body_outward}
@@ -32,14 +33,16 @@ record LeadsSo (p : ParsedTree) : Type 0 where
   outward : IsOutward true p.module_read.body
   parts : StmtsOutward p.module_read.body
 
-one_leads : (closing : List (List ℕ)) (begun : List StatementTree) (s : StatementTree) → s.phrase ≡ end_module → Each IsStatement (begun ++ s ∷ []) → fault_of (marks_of (begun ++ s ∷ [])) ≡ None → LeadsSo (build_module closing (begun ++ s ∷ []))
-one_leads closing begun s e i f =
-    let p = build_module closing (begun ++ s ∷ []) in
-    let b = is_built closing begun s e i f in
-    let body = p.module_read.body in
-    let some = goings_few body b.well.body in
-    let most : count_of (cards_in body) ≤ 4096 = few_stand closing begun s e i f in
-    let o = body_outward body b.well.body (body_ordered p.module_read b.well.body b.formed) (omega (arith, some, most)) (all_reach_there closing begun s e i f) in
+one_leads : (closing : List (List ℕ)) (begun : List StatementTree) (s : StatementTree) → s.phrase ≡ end_module → Each IsRead (begun ++ s ∷ []) → fault_of (marks_of (begun ++ s ∷ [])) ≡ None → LeadsSo (build_module closing (begun ++ s ∷ []))
+unfolding build_module elaborated
+one_leads closing begun s e r f =
+    let ss = begun ++ s ∷ [] in
+    let w = (written_module closing ss).module_read in
+    let i = each-map IsRead IsStatement ss (λ x h. h.phrase) r in
+    let a = written_well closing begun s e i f in
+    let some = goings_few (meant_in w).is_while w.body a.body in
+    let most = few_stand closing begun s e i f in
+    let o = body_outward (meant_in w) w.body a.body (written_ordered closing begun s e r f) a.whiles (omega (arith, some, most)) (all_reach_there closing begun s e i f) (labels_bounded closing begun s e r f) in
     record { outward = o.0; parts = o.1 }
 
 at_place : (ps : List ParsedTree) → Each LeadsSo ps → (i : ℕ) (p : ParsedTree) → slice_get ps i ≡ Some p → LeadsSo p
@@ -50,7 +53,7 @@ at_place (q ∷ ps) h (suc i) p e = at_place ps h.others i p e
 module _ (ps : List ParsedTree) (sss : List (List SymbolTree)) (g : Graph) (x : IsProgram ps sss g) (l : IsLinked ps sss g) where
   pub read_part : (i : ℕ) (p : ParsedTree) (ss : List SymbolTree) → IsModule ps sss i p ss → (cs : Callees) (entry : System) → OutPart (known_of ps sss) g (part_of (known_of ps sss) g cs entry (known p ss))
   read_part i p ss m cs entry =
-      let o = at_place ps (all_of LeadsSo one_leads x.lines ps x.parsed) i p m.parsed in
+      let o = at_place ps (all_read_of LeadsSo one_leads x.lines x.labelled ps x.parsed) i p m.parsed in
       record {
         tagged = routine_tagged (known_of ps sss) g (known p ss);
         kept = λ n j. own_kept ps sss g l p.module_read.name n j;

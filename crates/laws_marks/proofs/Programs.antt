@@ -15,8 +15,7 @@ use Rattle.f77_meaning.specs.Linked.{numbering, routine, main_of, subroutines, p
 use Rattle.loop_marker.specs.Results.{ModuleResults}
 use Rattle.loop_marker.specs.Phases.{all_marks}
 use Rattle.laws_programs.specs.Programs.{IsProgram}
-use Rattle.laws_programs.proofs.Numbers.{has_numbers}
-use Rattle.laws_programs.proofs.Whole.{numbers_go_up}
+use Rattle.laws_programs.proofs.Whole.{bodies_numbered}
 use Rattle.laws_programs.specs.Storage.Programs.{known}
 use Rattle.laws_programs.proofs.Storage.ModuleLaws.{known_module}
 use Rattle.call_graph.specs.CallsIn.{Each}
@@ -114,7 +113,7 @@ module _ (begin : LoopsBegin) (hold : LoopsHold) (copied : NamesAreCopied) (type
   numbered : (k : Known) → IsIn (known_of ps sss) k → HasNumbers k.read.body
   numbered k h =
       let m = module_at ps sss h.at k h.is_module in
-      subst (λ (z : Known). HasNumbers z.read.body) m.same (has_numbers m.parsed.module_read.body (numbers_go_up x.lines ps x.parsed h.at m.parsed m.is_module.parsed))
+      subst (λ (z : Known). HasNumbers z.read.body) m.same (bodies_numbered x.lines ps x.parsed h.at m.parsed m.is_module.parsed)
 
   others_are : map of others ≡ P.others
   others_are = subs_are (known_of ps sss) g g.order

@@ -56,7 +56,7 @@ all_stay : (stays : JumpsStayInside) (ps : List ParsedTree) (sss : List (List Sy
 all_stay stays ps sss g x [] h = tt
 all_stay stays ps sss g x (k ∷ xs) h =
     let m = module_at ps sss h.0.at k h.0.is_module in
-    (subst (λ (z : Known). StaysIn z.read.body) m.same (stays x.lines ps x.parsed h.0.at m.parsed m.is_module.parsed), all_stay stays ps sss g x xs h.1)
+    (subst (λ (z : Known). StaysIn z.read.body) m.same (stays x.lines x.labelled ps x.parsed h.0.at m.parsed m.is_module.parsed), all_stay stays ps sss g x xs h.1)
 
 pub stay_inside : JumpsStayInside → (ps : List ParsedTree) (sss : List (List SymbolTree)) (g : Graph) → IsProgram ps sss g → AllStay (subroutines (known_of ps sss) g g.order)
 stay_inside stays ps sss g x = subst AllStay (subs_are (known_of ps sss) g g.order) (all_stay stays ps sss g x (subs (known_of ps sss) g.order) (subs_in (known_of ps sss) g.order))

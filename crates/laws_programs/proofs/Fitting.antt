@@ -1,6 +1,6 @@
 -- Arrays stand in statements as they may, and statements have numbers from 1 on.
-use Rattle.std.proofs.Common.{◌≡◌, inl, inr, ℕ, ◌+◌, ◌<◌, Bool, true, false, not, List, [], ◌∷◌, Option, Some, None, refl, sym, ap, ◌∙◌, subst, arith}
-use Rattle.std.specs.Prelude.{if◌then◌else◌, bytes_eq, is_some}
+use Rattle.std.proofs.Common.{◌≡◌, inl, inr, ℕ, suc, ◌<◌, Bool, true, false, not, List, [], ◌∷◌, ◌++◌, Option, Some, None, refl, sym, ap, ◌∙◌, subst}
+use Rattle.std.specs.Prelude.{if◌then◌else◌, bytes_eq, is_some, slice_get}
 use Rattle.std.proofs.lemmas.Bool.{and_from}
 use Rattle.std.proofs.lemmas.Slice.Eq.{bytes_eq-Decides}
 use Rattle.f77_ast.specs.Trees.{ExprTree, ExprTrees, StmtTree, WhatTree, ArmTrees, ElseTree, LoopTree, StmtTrees}
@@ -14,11 +14,9 @@ use Rattle.f77_meaning.specs.Modules.{is_function, meant_by, names}
 use Rattle.laws_programs.specs.SymbolTables.Shapes.{symbol_named, has_any, bounds_of, Shaped, AllShaped, ShapedActual, ShapedActuals, ShapedStep, ShapedStmt, ShapedWhat, ShapedArms, ShapedElse, ShapedLoop, ShapedList}
 use Rattle.laws_programs.specs.SymbolTables.Shapes as laid
 use Rattle.laws_programs.proofs.Storage.ActualLaws.{meaning, no_meaning}
-use Rattle.roundtrip_programs.specs.Statements.Phrased.{IsWhat}
-use Rattle.roundtrip_programs.specs.ModuleTexts.Numbered.{last_of, last_arms, last_in}
+use Rattle.f77_ast.specs.StatementNumbers.{stmt_numbers, part_numbers, list_numbers, arms_numbers, else_numbers, loop_numbers}
 use Rattle.laws_programs.specs.Effects.Trees.{StandsBare, StandsIndexed, IsShaped, AreShaped, IsActual, AreActuals, OfMaybe, StmtFits, WhatFits, ListFits, ArmsFit, ElseFits, LoopFits}
 use Rattle.laws_programs.specs.Effects.Tables.{anything}
-use Rattle.laws_programs.proofs.Ordered.{StmtOrdered, BelowOrdered, LoopOrdered, ArmsOrdered, ElseOrdered, ListOrdered}
 
 -- ---- names
 
@@ -61,21 +59,23 @@ function_named ss x b i = go (symbol_with_name ss x) refl b
         let is : is_function s ≡ true = and_from (not (has_bounds s.bounds)) (is_some (intrinsic_named s.name)) (ap (λ bs. not (has_bounds bs)) h) (ap (λ n. is_some (intrinsic_named n)) (sym (name_of ss x s e)) ∙ i) in
         m.meant ∙ ap (λ c. if c then Function else meant_by s.scalar m.number s.place) is
 
-plain_below : (n : ℕ) (w : WhatTree) → IsWhat w → BelowOrdered n w
-plain_below n (tree.assign v e) h = tt
-plain_below n (tree.call c es) h = tt
-plain_below n (tree.goto l) h = tt
-plain_below n tree.continue h = tt
-plain_below n tree.return h = tt
-plain_below n (tree.stop t) h = tt
-plain_below n (tree.print es) h = tt
-plain_below n (tree.read es) h = tt
-plain_below n (tree.block_if arms other) h = absurd h
-plain_below n (tree.logical_if e s) h = absurd h
-plain_below n (tree.do_loop l) h = absurd h
+-- ---- numbers from 1 on
 
-positive : (id n : ℕ) → id ≡ n + 1 → 0 < id
-positive id n e = omega (arith, e)
+abbrev pub AreAbove : List ℕ → Type 0
+AreAbove [] = Unit {0}
+AreAbove (n ∷ ns) = (0 < n) × AreAbove ns
+
+left_above : (ms ns : List ℕ) → AreAbove (ms ++ ns) → AreAbove ms
+left_above [] ns h = tt
+left_above (m ∷ ms) ns h = (h.0, left_above ms ns h.1)
+
+right_above : (ms ns : List ℕ) → AreAbove (ms ++ ns) → AreAbove ns
+right_above [] ns h = h
+right_above (m ∷ ms) ns h = right_above ms ns h.1
+
+pub all_above : (ns : List ℕ) → ((i n : ℕ) → slice_get ns i ≡ Some n → 0 < n) → AreAbove ns
+all_above [] f = tt
+all_above (n ∷ ns) f = (f 0 n refl, all_above ns (λ i m e. f (suc i) m e))
 
 module _ (ss : List SymbolTree) where
   abbrev Bare : List ℕ → Type 0
@@ -129,33 +129,34 @@ module _ (ss : List SymbolTree) where
   -- ---- statements
 
   mutual
-    pub list_fits : (n : ℕ) (t : StmtTrees) → ListOrdered n t → ShapedList Bare Indexed t → ListFits t ss anything
-    list_fits n tree.no_stmts a h = tt
-    list_fits n (tree.more_stmts s rest) a h = (stmt_fits n s a.0 h.0, list_fits (last_of n s) rest a.1 h.1)
+    pub list_fits : (t : StmtTrees) → AreAbove (list_numbers t) → ShapedList Bare Indexed t → ListFits t ss anything
+    list_fits tree.no_stmts a h = tt
+    list_fits (tree.more_stmts s rest) a h = (stmt_fits s (left_above (stmt_numbers s) (list_numbers rest) a) h.0, list_fits rest (right_above (stmt_numbers s) (list_numbers rest) a) h.1)
 
-    stmt_fits : (n : ℕ) (s : StmtTree) → StmtOrdered n s → ShapedStmt Bare Indexed s → StmtFits s ss anything
-    stmt_fits n (tree.stmt id label w) a h = (positive id n a.0, what_fits (n + 1) w a.1 h)
+    stmt_fits : (s : StmtTree) → AreAbove (stmt_numbers s) → ShapedStmt Bare Indexed s → StmtFits s ss anything
+    stmt_fits (tree.stmt id label w) a h = (a.0, what_fits w a.1 h)
 
-    what_fits : (n : ℕ) (w : WhatTree) → BelowOrdered n w → ShapedWhat Bare Indexed w → WhatFits w ss anything
-    what_fits n (tree.assign v e) a h = (expr_is v h.0, expr_is e h.1)
-    what_fits n (tree.block_if arms other) a h = (arms_fit n arms a.0 h.0, else_fits (last_arms n arms) other a.1 h.1)
-    what_fits n (tree.logical_if e (tree.stmt id label w)) a h = (expr_is e h.0, (positive id n a.0, what_fits n w (plain_below n w a.1) h.1))
-    what_fits n (tree.do_loop l) a h = loop_fits n l a h
-    what_fits n (tree.call x es) a h = (actuals_are es h, tt)
-    what_fits n (tree.goto l) a h = tt
-    what_fits n tree.continue a h = tt
-    what_fits n tree.return a h = tt
-    what_fits n (tree.stop text) a h = tt
-    what_fits n (tree.print es) a h = exprs_are es h
-    what_fits n (tree.read es) a h = exprs_are es h
+    what_fits : (w : WhatTree) → AreAbove (part_numbers w) → ShapedWhat Bare Indexed w → WhatFits w ss anything
+    what_fits (tree.assign v e) a h = (expr_is v h.0, expr_is e h.1)
+    what_fits (tree.block_if arms other) a h = (arms_fit arms (left_above (arms_numbers arms) (else_numbers other) a) h.0, else_fits other (right_above (arms_numbers arms) (else_numbers other) a) h.1)
+    what_fits (tree.logical_if e s) a h = (expr_is e h.0, stmt_fits s a h.1)
+    what_fits (tree.do_loop l) a h = loop_fits l a h
+    what_fits (tree.call x es) a h = (actuals_are es h, tt)
+    what_fits (tree.goto l) a h = tt
+    what_fits tree.continue a h = tt
+    what_fits tree.return a h = tt
+    what_fits (tree.stop text) a h = tt
+    what_fits (tree.print es) a h = exprs_are es h
+    what_fits (tree.read es) a h = exprs_are es h
 
-    arms_fit : (n : ℕ) (arms : ArmTrees) → ArmsOrdered n arms → ShapedArms Bare Indexed arms → ArmsFit arms ss anything
-    arms_fit n tree.no_arms a h = tt
-    arms_fit n (tree.more_arms (tree.arm test body) rest) a h = ((expr_is test h.0.0, list_fits n body a.0 h.0.1), arms_fit (last_in n body) rest a.1 h.1)
+    arms_fit : (arms : ArmTrees) → AreAbove (arms_numbers arms) → ShapedArms Bare Indexed arms → ArmsFit arms ss anything
+    arms_fit tree.no_arms a h = tt
+    arms_fit (tree.more_arms (tree.arm test body) rest) a h =
+        ((expr_is test h.0.0, list_fits body (left_above (list_numbers body) (arms_numbers rest) a) h.0.1), arms_fit rest (right_above (list_numbers body) (arms_numbers rest) a) h.1)
 
-    else_fits : (n : ℕ) (other : ElseTree) → ElseOrdered n other → ShapedElse Bare Indexed other → ElseFits other ss anything
-    else_fits n tree.no_else a h = tt
-    else_fits n (tree.otherwise body) a h = list_fits n body a h
+    else_fits : (other : ElseTree) → AreAbove (else_numbers other) → ShapedElse Bare Indexed other → ElseFits other ss anything
+    else_fits tree.no_else a h = tt
+    else_fits (tree.otherwise body) a h = list_fits body a h
 
-    loop_fits : (n : ℕ) (l : LoopTree) → LoopOrdered n l → ShapedLoop Bare Indexed l → LoopFits l ss anything
-    loop_fits n (tree.loop index first last step body) a h = (is_bare index h.0, expr_is first h.1, expr_is last h.2, step_is step h.3, list_fits n body a h.4)
+    loop_fits : (l : LoopTree) → AreAbove (loop_numbers l) → ShapedLoop Bare Indexed l → LoopFits l ss anything
+    loop_fits (tree.loop index first last step body) a h = (is_bare index h.0, expr_is first h.1, expr_is last h.2, step_is step h.3, list_fits body a h.4)

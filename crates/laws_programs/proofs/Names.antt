@@ -3,15 +3,16 @@ use Rattle.std.proofs.Common.{◌≡◌, ℕ, Bool, true, false, not, List, [], 
 use Rattle.std.specs.Prelude.{nat_eq, if◌then◌else◌, ◌||◌}
 use Rattle.std.specs.List.{list_any}
 use Rattle.std.proofs.lemmas.Bool.{and_from, or_from, not_from_false, eqb-true}
+use Rattle.f77_ast.specs.declared.module.FunctionForm.{FunctionForm}
 use Rattle.f77_ast.specs.DeclTrees.{ModuleTree}
 use Rattle.f77_exprs.specs.Lexical.{in_name, skip_name}
 use Rattle.roundtrip_programs.specs.Statements.Formed.{Each}
 use Rattle.roundtrip_programs.specs.Statements.Phrased.{IsPhrase}
-use Rattle.f77_statements.specs.Phrases.{program, subroutine}
+use Rattle.f77_statements.specs.Phrases.{program}
 use Rattle.f77_ast.specs.declared.places.Part.TheVariants as parts
-use Rattle.std.specs.Prelude.{None}
-use Rattle.roundtrip_programs.specs.ModuleTexts.Cards.{card, title_cards}
-use Rattle.roundtrip_programs.specs.ModuleTexts.Numbered.{TitleFits}
+use Rattle.std.specs.Prelude.{Option, None, Some}
+use Rattle.roundtrip_programs.specs.ModuleTexts.Cards.{card, head_phrase, title_cards}
+use Rattle.roundtrip_programs.specs.ModuleTexts.Numbered.{TitleFits, IsWell}
 use Rattle.roundtrip_programs.proofs.ModuleTexts.Kept.{Held}
 use Rattle.laws_programs.specs.Effects.Tables.{is_plain}
 use Rattle.roundtrip_programs.proofs.ModuleTexts.Cards.{Any as AnyLabel}
@@ -39,15 +40,19 @@ name_plain x e =
 
 -- ---- titles
 
-by_title : (main titled : Bool) (name : List ℕ) (dummies : List (List ℕ)) → TitleFits main titled name dummies
-    → Each (Held AnyLabel IsPhrase) (if titled || not main then card parts.Title None (if main then program name else subroutine name dummies) ∷ [] else []) → skip_name name ≡ []
-by_title true true name dummies t h = h.first.1.whole
-by_title true false name dummies t h = subst (λ x. skip_name x ≡ []) (sym t.unnamed) refl
-by_title false true name dummies t h = h.first.1.name.whole
-by_title false false name dummies t h = h.first.1.name.whole
+head_plain : (function : Option FunctionForm) (name : List ℕ) (dummies : List (List ℕ)) → IsPhrase (head_phrase function name dummies) → skip_name name ≡ []
+head_plain None name dummies h = h.name.whole
+head_plain (Some form) name dummies h = h.name.whole
 
-pub title_plain : (m : ModuleTree) → TitleFits m.main m.titled m.name m.dummies → Each (Held AnyLabel IsPhrase) (title_cards m) → is_plain m.name ≡ true
-title_plain m t h = name_plain m.name (by_title m.main m.titled m.name m.dummies t h)
+by_title : (main titled : Bool) (function : Option FunctionForm) (name : List ℕ) (dummies : List (List ℕ)) → TitleFits main titled name dummies
+    → Each (Held AnyLabel IsPhrase) (if titled || not main then card parts.Title None (if main then program name else head_phrase function name dummies) ∷ [] else []) → skip_name name ≡ []
+by_title true true function name dummies t h = h.first.1.whole
+by_title true false function name dummies t h = subst (λ x. skip_name x ≡ []) (sym t.unnamed) refl
+by_title false true function name dummies t h = head_plain function name dummies h.first.1
+by_title false false function name dummies t h = head_plain function name dummies h.first.1
+
+pub title_plain : (m : ModuleTree) → IsWell m → Each (Held AnyLabel IsPhrase) (title_cards m) → is_plain m.name ≡ true
+title_plain m w h = name_plain m.name (by_title m.main m.titled m.function m.name m.dummies w.title h)
 
 pub no_dummies : (main titled : Bool) (name : List ℕ) (dummies : List (List ℕ)) → TitleFits main titled name dummies → main ≡ true → dummies ≡ []
 no_dummies true true name dummies t e = t

@@ -1,90 +1,58 @@
--- The numbers of statements that are numbered in the order of the text go up by one.
-use Rattle.std.proofs.Common.{◌≡◌, ℕ, zero, suc, ◌+◌, List, [], ◌∷◌, ◌++◌, Some, refl, sym, subst, arith}
-use Rattle.std.specs.Prelude.{slice_get}
-use Rattle.f77_ast.specs.Trees.{StmtTree, stmt, WhatTree, assign, block_if, logical_if, do_loop, call, goto, continue, return, stop, print, read, arm, ArmTrees, no_arms, more_arms, ElseTree, no_else, otherwise, LoopTree, loop, StmtTrees, no_stmts, more_stmts}
-use Rattle.roundtrip_programs.specs.Statements.Phrased.{IsWhat}
-use Rattle.roundtrip_programs.specs.ModuleTexts.Numbered.{last_of, last_by, last_body, last_arms, last_else, last_in}
-use Rattle.f77_ast.specs.StatementNumbers.{stmt_numbers, part_numbers, list_numbers, arms_numbers, else_numbers, loop_numbers, StandOnce, HasNumbers}
-use Rattle.laws_programs.specs.Programs.{GoUp}
-use Rattle.laws_programs.proofs.Ordered.{StmtOrdered, BelowOrdered, LoopOrdered, ArmsOrdered, ElseOrdered, ListOrdered}
+-- The numbers of the statements of the text go up by one, and so do those of hidden statements.
+use Rattle.std.proofs.Common.{◌≡◌, inl, inr, ℕ, ◌+◌, ◌≤◌, Bool, true, false, List, [], ◌∷◌, sym, ap, subst, arith}
+use Rattle.std.specs.Prelude.{not, if◌then◌else◌}
+use Rattle.std.specs.List.{filter}
+use Rattle.std.proofs.lemmas.Bool.Decides.{nat_tests}
+use Rattle.f77_ast.specs.DeclTrees.{ModuleTree}
+use Rattle.f77_ast.specs.Hidden.{is_hidden}
+use Rattle.f77_ast.specs.StatementNumbers.{list_numbers, HasNumbers}
+use Rattle.f77_parser.specs.Elaborated.{meant_in, hidden_in, elaborated}
+use Rattle.roundtrip_programs.specs.ModuleTexts.Folded.{folded}
+use Rattle.roundtrip_programs.specs.ModuleTexts.Numbered.{last_in, IsWell}
+use Rattle.roundtrip_programs.proofs.ModuleTexts.ElaboratedNumbers.{Rows, rows-up, list-rows, elaborated_numbers}
+use Rattle.laws_programs.specs.Programs.{GoUp, is_shown}
 
--- these are the numbers behind n up to m
-abbrev Row : ℕ → List ℕ → ℕ → Type 0
-Row n [] m = n ≡ m
-Row n (x ∷ xs) m = (x ≡ n + 1) × Row (n + 1) xs m
+shown : (x n m : ℕ) → x ≡ n + 1 → n + 1 ≤ m → m ≤ 4096 → is_hidden x ≡ false
+shown x n m e up few = grind (arith, nat_tests)
 
-joined : (n m k : ℕ) (xs ys : List ℕ) → Row n xs m → Row m ys k → Row n (xs ++ ys) k
-joined n m k [] ys h g = subst (λ i. Row i ys k) (sym h) g
-joined n m k (x ∷ xs) ys h g = (h.0, joined (n + 1) m k xs ys h.1 g)
+hidden : (x h : ℕ) → x ≡ 4097 + h → is_hidden x ≡ true
+hidden x h e = grind (arith, nat_tests)
 
-plain_row : (n : ℕ) (w : WhatTree) → IsWhat w → Row n (part_numbers w) n
-plain_row n (assign v e) h = refl
-plain_row n (call c es) h = refl
-plain_row n (goto l) h = refl
-plain_row n continue h = refl
-plain_row n return h = refl
-plain_row n (stop t) h = refl
-plain_row n (print es) h = refl
-plain_row n (read es) h = refl
-plain_row n (block_if arms other) h = absurd h
-plain_row n (logical_if e s) h = absurd h
-plain_row n (do_loop l) h = absurd h
+kept : (p : ℕ → Bool) (n x : ℕ) (xs : List ℕ) → p x ≡ true → x ≡ n → GoUp (n + 1) (filter p xs) → GoUp n (filter p (x ∷ xs))
+kept p n x xs e s g = subst (λ c. GoUp n (if c then x ∷ filter p xs else filter p xs)) (sym e) (s, g)
 
-mutual
-  list_row : (n : ℕ) (t : StmtTrees) → ListOrdered n t → Row n (list_numbers t) (last_in n t)
-  list_row n no_stmts h = refl
-  list_row n (more_stmts s others) h = joined n (last_of n s) (last_in (last_of n s) others) (stmt_numbers s) (list_numbers others) (stmt_row n s h.0) (list_row (last_of n s) others h.1)
+left : (p : ℕ → Bool) (n x : ℕ) (xs : List ℕ) → p x ≡ false → GoUp n (filter p xs) → GoUp n (filter p (x ∷ xs))
+left p n x xs e g = subst (λ c. GoUp n (if c then x ∷ filter p xs else filter p xs)) (sym e) g
 
-  stmt_row : (n : ℕ) (s : StmtTree) → StmtOrdered n s → Row n (stmt_numbers s) (last_of n s)
-  stmt_row n (stmt id label w) h = (h.0, part_row (n + 1) w h.1)
+text_go : (n h m k : ℕ) (xs : List ℕ) → m ≤ 4096 → Rows n h xs m k → GoUp (n + 1) (filter is_shown xs)
+text_go n h m k [] few r = tt
+text_go n h m k (x ∷ xs) few (inl r) = kept is_shown (n + 1) x xs (ap not (shown x n m r.0 (rows-up (n + 1) h m k xs r.1) few)) r.0 (text_go (n + 1) h m k xs few r.1)
+text_go n h m k (x ∷ xs) few (inr r) = left is_shown (n + 1) x xs (ap not (hidden x h r.0)) (text_go n (h + 1) m k xs few r.1)
 
-  part_row : (n : ℕ) (w : WhatTree) → BelowOrdered n w → Row n (part_numbers w) (last_by n w)
-  part_row n (assign v e) h = refl
-  part_row n (block_if arms other) h =
-      joined n (last_arms n arms) (last_else (last_arms n arms) other) (arms_numbers arms) (else_numbers other) (arms_row n arms h.0) (else_row (last_arms n arms) other h.1)
-  part_row n (logical_if e (stmt id label w)) h = (h.0, plain_row (n + 1) w h.1)
-  part_row n (do_loop l) h = loop_row n l h
-  part_row n (call c es) h = refl
-  part_row n (goto l) h = refl
-  part_row n continue h = refl
-  part_row n return h = refl
-  part_row n (stop t) h = refl
-  part_row n (print es) h = refl
-  part_row n (read es) h = refl
+next : (h : ℕ) (xs : List ℕ) → GoUp (4097 + (h + 1)) xs → GoUp (4097 + h + 1) xs
+next h xs g = subst (λ n. GoUp n xs) (omega arith) g
 
-  loop_row : (n : ℕ) (l : LoopTree) → LoopOrdered n l → Row n (loop_numbers l) (last_body n l)
-  loop_row n (loop index first last step body) h = list_row n body h
+hidden_go : (n h m k : ℕ) (xs : List ℕ) → m ≤ 4096 → Rows n h xs m k → GoUp (4097 + h) (filter is_hidden xs)
+hidden_go n h m k [] few r = tt
+hidden_go n h m k (x ∷ xs) few (inl r) = left is_hidden (4097 + h) x xs (shown x n m r.0 (rows-up (n + 1) h m k xs r.1) few) (hidden_go (n + 1) h m k xs few r.1)
+hidden_go n h m k (x ∷ xs) few (inr r) = kept is_hidden (4097 + h) x xs (hidden x h r.0) r.0 (next h (filter is_hidden xs) (hidden_go n (h + 1) m k xs few r.1))
 
-  arms_row : (n : ℕ) (arms : ArmTrees) → ArmsOrdered n arms → Row n (arms_numbers arms) (last_arms n arms)
-  arms_row n no_arms h = refl
-  arms_row n (more_arms (arm test body) others) h =
-      joined n (last_in n body) (last_arms (last_in n body) others) (list_numbers body) (arms_numbers others) (list_row n body h.0) (arms_row (last_in n body) others h.1)
+-- ---- modules
 
-  else_row : (n : ℕ) (other : ElseTree) → ElseOrdered n other → Row n (else_numbers other) (last_else n other)
-  else_row n no_else h = refl
-  else_row n (otherwise body) h = list_row n body h
+module _ (m : ModuleTree) (w : IsWell m) where
+  rows : Rows 0 0 (list_numbers m.body) (last_in 0 (folded m).body) (hidden_in (meant_in (folded m)) 0 (folded m).body)
+  unfolding elaborated folded
+  rows =
+      subst (λ (x : ModuleTree). Rows 0 0 (list_numbers x.body) (last_in 0 (folded m).body) (hidden_in (meant_in (folded m)) 0 (folded m).body)) w.same
+      (list-rows (meant_in (folded m)) 0 0 (folded m).body w.body w.whiles)
 
-go_up : (n m : ℕ) (xs : List ℕ) → Row n xs m → GoUp (n + 1) xs
-go_up n m [] h = tt
-go_up n m (x ∷ xs) h = (h.0, go_up (n + 1) m xs h.1)
+  pub text_numbers_go : GoUp 1 (filter is_shown (list_numbers m.body))
+  text_numbers_go = text_go 0 0 (last_in 0 (folded m).body) (hidden_in (meant_in (folded m)) 0 (folded m).body) (list_numbers m.body) w.few rows
 
-pub numbers_go : (t : StmtTrees) → ListOrdered 0 t → GoUp 1 (list_numbers t)
-numbers_go t h = go_up 0 (last_in 0 t) (list_numbers t) (list_row 0 t h)
+  pub hidden_numbers_go : GoUp 4097 (filter is_hidden (list_numbers m.body))
+  hidden_numbers_go = hidden_go 0 0 (last_in 0 (folded m).body) (hidden_in (meant_in (folded m)) 0 (folded m).body) (list_numbers m.body) w.few rows
 
--- ---- none stands twice
-
-number_at : (n : ℕ) (xs : List ℕ) (i x : ℕ) → GoUp n xs → slice_get xs i ≡ Some x → x ≡ n + i
-number_at n [] i x h e = cc
-number_at n (y ∷ ys) zero x h e = let same : y ≡ x = cc in let first = h.0 in omega (arith, same, first)
-number_at n (y ∷ ys) (suc i) x h e = let r = number_at (n + 1) ys i x h.1 e in omega (arith, r)
-
-pub once : (n : ℕ) (xs : List ℕ) → GoUp n xs → StandOnce xs
-once n xs h i j x e f = let a = number_at n xs i x h e in let b = number_at n xs j x h f in omega (arith, a, b)
-
--- ---- so a body whose numbers go up from 1 has numbers
-
-pub has_numbers : (body : StmtTrees) → GoUp 1 (list_numbers body) → HasNumbers body
-has_numbers body h = record {
-  once = once 1 (list_numbers body) h;
-  above = λ i n e. (let r = number_at 1 (list_numbers body) i n h e in omega (arith, r));
-}
+  -- each statement has a number of its own
+  pub well_numbered : HasNumbers m.body
+  unfolding elaborated folded
+  well_numbered = subst (λ (x : ModuleTree). HasNumbers x.body) w.same (elaborated_numbers (meant_in (folded m)) (folded m).body w.body w.few w.whiles)

@@ -9,33 +9,35 @@ use Rattle.laws_programs.proofs.SymbolTables.Answers.{answered_by}
 use Rattle.laws_programs.proofs.SymbolTables.DummyLaws.{dummies_come_first}
 use Rattle.laws_programs.proofs.SymbolTables.ShapeLaws.{bodies_are_shaped}
 use Rattle.f77_meaning.specs.Modules.{Known, known_of}
-use Rattle.f77_ast.specs.StatementNumbers.{list_numbers}
+use Rattle.fixed_form.specs.declared.line.Lines.{Lines}
+use Rattle.f77_parser.specs.Modules.{parse_of}
+use Rattle.f77_ast.specs.StatementNumbers.{list_numbers, StandOnce, HasNumbers}
 use Rattle.laws_programs.specs.Effects.Tables.{IsRead}
 use Rattle.laws_programs.specs.Effects.Laws.{AreRead, AreNumberedOnce}
-use Rattle.laws_programs.specs.Programs.{AreTables, GoUp}
-use Rattle.laws_programs.specs.Laws.{ModulesAreRead, NumbersGoUp, NumbersStandOnce}
+use Rattle.laws_programs.specs.Programs.{AreTables}
+use Rattle.laws_programs.specs.Laws.{ModulesAreRead, AreInOrder, NumbersGoUp, NumbersStandOnce}
 use Rattle.laws_programs.proofs.Sources.{IsBuilt, all_built}
-use Rattle.laws_programs.proofs.Ordered.{title_formed, body_ordered}
-use Rattle.laws_programs.proofs.Numbers.{numbers_go, once}
+use Rattle.laws_programs.proofs.Ordered.{title_formed}
+use Rattle.laws_programs.proofs.Numbers.{text_numbers_go, hidden_numbers_go, well_numbered}
 use Rattle.laws_programs.proofs.Dummies.{they_lead}
 use Rattle.laws_programs.proofs.Names.{title_plain, no_dummies}
 use Rattle.laws_programs.proofs.Bounds.{bounds_are_scalars}
-use Rattle.laws_programs.proofs.Fitting.{list_fits}
+use Rattle.laws_programs.proofs.Fitting.{all_above, list_fits}
 
 -- ---- one module
 
 is_read : (p : ParsedTree) (ss : List SymbolTree) → IsBuilt p → symbols_of p ≡ Ok ss → IsRead (record { read = p.module_read; symbols = ss })
 is_read p ss b e =
     let m = p.module_read in record {
-      name = title_plain m b.well.title (title_formed m b.formed);
+      name = title_plain m b.well (title_formed m b.formed);
       dummies = they_lead 1 (length m.dummies) ss (dummies_come_first p ss e);
       main = no_dummies m.main m.titled m.name m.dummies b.well.title;
       bounds = bounds_are_scalars p ss (answered_by p ss e);
-      body = list_fits ss 0 m.body (body_ordered m b.well.body b.formed) (bodies_are_shaped p ss e);
+      body = list_fits ss m.body (all_above (list_numbers m.body) (well_numbered m b.well).above) (bodies_are_shaped p ss e);
     }
 
-go_up : (p : ParsedTree) → IsBuilt p → GoUp 1 (list_numbers p.module_read.body)
-go_up p b = numbers_go p.module_read.body (body_ordered p.module_read b.well.body b.formed)
+go_up : (p : ParsedTree) → IsBuilt p → AreInOrder (list_numbers p.module_read.body)
+go_up p b = (text_numbers_go p.module_read b.well, hidden_numbers_go p.module_read b.well)
 
 -- ---- all of them
 
@@ -51,13 +53,18 @@ all_read (p ∷ ps) (ss ∷ sss) b t (suc n) k e = all_read ps sss b.others t.1 
 pub modules_are_read : ModulesAreRead
 modules_are_read lines ps sss h t = all_read ps sss (all_built lines ps h) t
 
-all_go : (ps : List ParsedTree) → Each IsBuilt ps → (i : ℕ) (p : ParsedTree) → slice_get ps i ≡ Some p → GoUp 1 (list_numbers p.module_read.body)
-all_go [] b i p e = cc
-all_go (q ∷ ps) b zero p e = let same : q ≡ p = cc in subst (λ x. GoUp 1 (list_numbers x.module_read.body)) same (go_up q b.first)
-all_go (q ∷ ps) b (suc i) p e = all_go ps b.others i p e
+module _ (P : ParsedTree → Type 0) where
+  each_at : (ps : List ParsedTree) → Each P ps → (i : ℕ) (p : ParsedTree) → slice_get ps i ≡ Some p → P p
+  each_at [] b i p e = cc
+  each_at (q ∷ ps) b zero p e = let same : q ≡ p = cc in subst P same b.first
+  each_at (q ∷ ps) b (suc i) p e = each_at ps b.others i p e
 
 pub numbers_go_up : NumbersGoUp
-numbers_go_up lines ps h = all_go ps (all_built lines ps h)
+numbers_go_up lines ps h i p e = go_up p (each_at IsBuilt ps (all_built lines ps h) i p e)
+
+-- each statement has a number of its own, above 0
+pub bodies_numbered : (lines : Lines) (ps : List ParsedTree) → parse_of lines ≡ Ok ps → (i : ℕ) (p : ParsedTree) → slice_get ps i ≡ Some p → HasNumbers p.module_read.body
+bodies_numbered lines ps h i p e = well_numbered p.module_read (each_at IsBuilt ps (all_built lines ps h) i p e).well
 
 all_once : (ps : List ParsedTree) (sss : List (List SymbolTree)) → Each IsBuilt ps → AreNumberedOnce (known_of ps sss)
 all_once [] sss b n k e = cc
@@ -65,7 +72,7 @@ all_once (p ∷ ps) [] b n k e = cc
 all_once (p ∷ ps) (ss ∷ sss) b zero k e =
     let mine : Known = record { read = p.module_read; symbols = ss } in
     let same : mine ≡ k = cc in
-    once 1 (list_numbers k.read.body) (subst (λ (x : Known). GoUp 1 (list_numbers x.read.body)) same (go_up p b.first))
+    subst (λ (x : Known). StandOnce (list_numbers x.read.body)) same (well_numbered p.module_read b.first.well).once
 all_once (p ∷ ps) (ss ∷ sss) b (suc n) k e = all_once ps sss b.others n k e
 
 pub numbers_stand_once : NumbersStandOnce

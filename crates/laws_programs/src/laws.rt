@@ -9,7 +9,8 @@ pub fn modules_are_read()
     ensures { ModulesAreRead }
 {}
 
-/// The executable statements of a module have the numbers 1, 2, 3 and so on, in the order of the text.
+/// The executable statements of a module have the numbers 1, 2, 3 and so on, in the order of the text, and hidden statements those from
+/// 4097 on.
 pub fn numbers_go_up()
     ensures { NumbersGoUp }
 {}

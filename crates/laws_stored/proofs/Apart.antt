@@ -1,5 +1,5 @@
 -- Sets in order have at most one region of a variable and kind, as what is written of these tells.
-use Rattle.std.proofs.Common.{◌≡◌, ℕ, suc, arith, true, false, List, [], ◌∷◌, ◌++◌, map, Some, None, refl, sym, ap, ap₂, ◌∙◌}
+use Rattle.std.proofs.Common.{◌≡◌, ℕ, suc, arith, true, false, List, [], ◌∷◌, ◌++◌, get_or, drop, map, Some, None, refl, sym, ap, ap₂, ◌∙◌}
 use Rattle.std.specs.Prelude.{if◌then◌else◌, is_none, bytes_eq}
 use Rattle.std.specs.declared.cmp.Ordering.TheVariants.{Less, Equal}
 use Rattle.std.specs.Ordering.{nat_cmp, ordering_then}
@@ -46,31 +46,26 @@ pub record SameKey (a b : Access) (x y : List ℕ) : Type 0 where
   kinds : a ≡ b
   texts : x ≡ y
 
-abbrev head : List ℕ → ℕ
-head [] = 0
-head (c ∷ cs) = c
-
-abbrev tail : List ℕ → List ℕ
-tail [] = []
-tail (c ∷ cs) = cs
+abbrev first_letter : List ℕ → ℕ
+first_letter l = get_or l 0 0
 
 same_key : (a b : Access) (x y : List ℕ) → access_text a ++ x ≡ access_text b ++ y → SameKey a b x y
-same_key access.Read access.Read x y e = record { kinds = refl; texts = ap (λ (l : List ℕ). tail (tail (tail (tail (tail l))))) e }
-same_key access.Read access.Write x y e = let q : 82 ≡ 87 = ap head e in absurd (omega (arith, q))
-same_key access.Read access.In x y e = let q : 82 ≡ 73 = ap head e in absurd (omega (arith, q))
-same_key access.Read access.Out x y e = let q : 82 ≡ 79 = ap head e in absurd (omega (arith, q))
-same_key access.Write access.Read x y e = let q : 87 ≡ 82 = ap head e in absurd (omega (arith, q))
-same_key access.Write access.Write x y e = record { kinds = refl; texts = ap (λ (l : List ℕ). tail (tail (tail (tail (tail (tail l)))))) e }
-same_key access.Write access.In x y e = let q : 87 ≡ 73 = ap head e in absurd (omega (arith, q))
-same_key access.Write access.Out x y e = let q : 87 ≡ 79 = ap head e in absurd (omega (arith, q))
-same_key access.In access.Read x y e = let q : 73 ≡ 82 = ap head e in absurd (omega (arith, q))
-same_key access.In access.Write x y e = let q : 73 ≡ 87 = ap head e in absurd (omega (arith, q))
-same_key access.In access.In x y e = record { kinds = refl; texts = ap (λ (l : List ℕ). tail (tail (tail l))) e }
-same_key access.In access.Out x y e = let q : 73 ≡ 79 = ap head e in absurd (omega (arith, q))
-same_key access.Out access.Read x y e = let q : 79 ≡ 82 = ap head e in absurd (omega (arith, q))
-same_key access.Out access.Write x y e = let q : 79 ≡ 87 = ap head e in absurd (omega (arith, q))
-same_key access.Out access.In x y e = let q : 79 ≡ 73 = ap head e in absurd (omega (arith, q))
-same_key access.Out access.Out x y e = record { kinds = refl; texts = ap (λ (l : List ℕ). tail (tail (tail (tail l)))) e }
+same_key access.Read access.Read x y e = record { kinds = refl; texts = ap (drop 5) e }
+same_key access.Read access.Write x y e = let q : 82 ≡ 87 = ap first_letter e in absurd (omega (arith, q))
+same_key access.Read access.In x y e = let q : 82 ≡ 73 = ap first_letter e in absurd (omega (arith, q))
+same_key access.Read access.Out x y e = let q : 82 ≡ 79 = ap first_letter e in absurd (omega (arith, q))
+same_key access.Write access.Read x y e = let q : 87 ≡ 82 = ap first_letter e in absurd (omega (arith, q))
+same_key access.Write access.Write x y e = record { kinds = refl; texts = ap (drop 6) e }
+same_key access.Write access.In x y e = let q : 87 ≡ 73 = ap first_letter e in absurd (omega (arith, q))
+same_key access.Write access.Out x y e = let q : 87 ≡ 79 = ap first_letter e in absurd (omega (arith, q))
+same_key access.In access.Read x y e = let q : 73 ≡ 82 = ap first_letter e in absurd (omega (arith, q))
+same_key access.In access.Write x y e = let q : 73 ≡ 87 = ap first_letter e in absurd (omega (arith, q))
+same_key access.In access.In x y e = record { kinds = refl; texts = ap (drop 3) e }
+same_key access.In access.Out x y e = let q : 73 ≡ 79 = ap first_letter e in absurd (omega (arith, q))
+same_key access.Out access.Read x y e = let q : 79 ≡ 82 = ap first_letter e in absurd (omega (arith, q))
+same_key access.Out access.Write x y e = let q : 79 ≡ 87 = ap first_letter e in absurd (omega (arith, q))
+same_key access.Out access.In x y e = let q : 79 ≡ 73 = ap first_letter e in absurd (omega (arith, q))
+same_key access.Out access.Out x y e = record { kinds = refl; texts = ap (drop 4) e }
 
 module _ (names : List (List ℕ)) (are : AreNames names) where
   abbrev Named : Region → Type 0

@@ -11,7 +11,7 @@ use Rattle.fixed_form.specs.declared.line.Line.{Line}
 use Rattle.fixed_form.specs.declared.line.Lines.{Lines}
 use Rattle.f77_ast.specs.DeclTrees.{ParsedTree}
 use Rattle.f77_statements.specs.declared.refusal.Cause.{Cause}
-use Rattle.f77_statements.specs.Phrases.{PhraseTree, program, subroutine, specification, simple, logical_if, block_if, else_if, else_part, end_if, do_head, end_do, end_module}
+use Rattle.f77_statements.specs.Phrases.{PhraseTree, program, subroutine, function, specification, simple, logical_if, block_if, else_if, else_part, end_if, do_head, while_head, end_do, end_module}
 use Rattle.f77_statements.specs.Statements.{phrase_of}
 use Rattle.f77_structure.specs.Checks.{fault_of}
 use Rattle.f77_structure.specs.Depth.{is_deep}
@@ -19,7 +19,8 @@ use Rattle.f77_structure.specs.Lists.{is_none_of}
 use Rattle.f77_parser.specs.Gives.{Refused, and_then}
 use Rattle.f77_parser.specs.Statements.{StatementTree, read_as, all_read, marks_of, length_of, characters}
 use Rattle.f77_parser.specs.Building.{build_module}
-use Rattle.f77_parser.specs.Modules.{ends_module, closing_at, unless_faulty, modules_from, parse_of}
+use Rattle.f77_parser.specs.Ends.{ends_module}
+use Rattle.f77_parser.specs.Modules.{module_fault, statements_in, closing_at, unless_faulty, module_read, modules_from, parse_of}
 use Rattle.f77_ast.specs.Symbols.{SymbolTree}
 use Rattle.f77_meaning.specs.Modules.{symbol_names}
 use Rattle.fx_lists.specs.declared.refusal.Refusal.{Refusal}
@@ -30,6 +31,8 @@ use Rattle.laws_programs.specs.roundtrip_programs.Statements.Written.{as_written
 use Rattle.laws_programs.proofs.RoundtripPrograms.Statements.Phrases.{statements_read_back}
 use Rattle.laws_programs.specs.roundtrip_programs.ModuleTexts.Cards.{statements_of}
 use Rattle.laws_programs.proofs.RoundtripPrograms.ModuleTexts.Kept.{Kind, Stated, all_held, Each-append, each-map}
+use Rattle.laws_programs.proofs.RoundtripPrograms.Assigned.{no-fault, read-well}
+use Rattle.laws_programs.proofs.RoundtripPrograms.Written.Read.{only-end}
 use Rattle.laws_programs.proofs.Sources.{IsBuilt}
 use Rattle.laws_lines.proofs.TableNames.{names_are_distinct}
 use Rattle.base_json.specs.Scopes.{in_name, is_name}
@@ -224,6 +227,7 @@ module _ (Name : List ℕ → Type 0) where
   written : (p : PhraseTree) → IsNaming Name p → IsNaming Name (as_written p)
   written (program n) h = h
   written (subroutine n ds) h = h
+  written (function form n ds) h = h
   written (specification d) h = h
   written (simple w) h = h
   written (logical_if e w) h = h
@@ -232,6 +236,7 @@ module _ (Name : List ℕ → Type 0) where
   written else_part h = h
   written end_if h = h
   written (do_head d) h = (record { index = h.0.index; first = h.0.first; last = h.0.last; step = h.0.step }, h.1)
+  written (while_head l e) h = h
   written end_do h = h
   written end_module h = h
 
@@ -248,15 +253,19 @@ module _ (Name : List ℕ → Type 0) where
     labelled = (tt, tt);
   }
 
-  built_naming : (closing : List (List ℕ)) (ss : List StatementTree) → Each Q ss → P (build_module closing ss)
-  built_naming closing ss h = all_held AnyLabel (IsNaming Name) (IsNaming Name) kind closing ss (each-map Q (Stated AnyLabel (IsNaming Name)) ss (λ x i. (tt, i)) h)
+  built_naming : (closing : List (List ℕ)) (begun : List StatementTree) (s : StatementTree) → s.phrase ≡ end_module → Each Q (begun ++ s ∷ []) → fault_of (marks_of (begun ++ s ∷ [])) ≡ None
+      → P (build_module closing (begun ++ s ∷ []))
+  built_naming closing begun s e h f =
+      all_held AnyLabel (IsNaming Name) (IsNaming Name) kind closing begun s e (each-map Q (Stated AnyLabel (IsNaming Name)) (begun ++ s ∷ []) (λ x i. (tt, i)) h) f
 
-  faultless : (f : Option Refusal) (q : ParsedTree) (k : ParsedTree → Result (List ParsedTree) Refused) (ps : List ParsedTree) → and_then (unless_faulty f q) k ≡ Ok ps → (k q ≡ Ok ps → Each P ps) → Each P ps
-  faultless None q k ps h g = g h
+  faultless : (f : Option Refusal) (q : ParsedTree) (k : ParsedTree → Result (List ParsedTree) Refused) (ps : List ParsedTree) → and_then (unless_faulty f q) k ≡ Ok ps
+      → (f ≡ None → k q ≡ Ok ps → Each P ps) → Each P ps
+  faultless None q k ps h g = g refl h
   faultless (Some f) q k ps h g = cc
 
-  choice : (b : Bool) (x y : Result (List ParsedTree) Refused) (ps : List ParsedTree) → (if b then x else y) ≡ Ok ps → (x ≡ Ok ps → Each P ps) → (y ≡ Ok ps → Each P ps) → Each P ps
-  choice true x y ps h f g = f h
+  choice : (b : Bool) (x y : Result (List ParsedTree) Refused) (ps : List ParsedTree) → (if b then x else y) ≡ Ok ps
+      → (b ≡ true → x ≡ Ok ps → Each P ps) → (y ≡ Ok ps → Each P ps) → Each P ps
+  choice true x y ps h f g = f refl h
   choice false x y ps h f g = g h
 
   modules_naming : (closing : List (List ℕ)) (ss : List StatementTree) (done ps : List ParsedTree) (begun : List StatementTree) → Each P done → Each Q begun → Each Q ss → modules_from closing done begun ss ≡ Ok ps → Each P ps
@@ -266,10 +275,10 @@ module _ (Name : List ℕ → Type 0) where
       let own = closing_at (is_none_of ss) closing in
       let more : Each Q whole = Each-append Q begun (s ∷ []) b (record { first = i.first; others = tt }) in
       choice (ends_module s.phrase)
-      (and_then (unless_faulty (fault_of (marks_of whole)) (build_module own whole)) (λ p. modules_from closing (done ++ p ∷ []) [] ss)) (modules_from closing done whole ss) ps h
-      (λ g. faultless (fault_of (marks_of whole)) (build_module own whole) (λ p. modules_from closing (done ++ p ∷ []) [] ss) ps g
-      (λ x. modules_naming closing ss (done ++ build_module own whole ∷ []) ps []
-      (Each-append P done (build_module own whole ∷ []) d (record { first = built_naming own whole more; others = tt })) tt i.others x))
+      (and_then (module_read own whole) (λ p. modules_from closing (done ++ p ∷ []) [] ss)) (modules_from closing done whole ss) ps h
+      (λ e g. faultless (module_fault whole) (build_module own whole) (λ p. modules_from closing (done ++ p ∷ []) [] ss) ps g
+      (λ f x. modules_naming closing ss (done ++ build_module own whole ∷ []) ps []
+      (Each-append P done (build_module own whole ∷ []) d (record { first = built_naming own begun s (only-end s.phrase e) more (no-fault whole f).structure; others = tt })) tt i.others x))
       (λ g. modules_naming closing ss done ps whole d more i.others g)
 
 each_statement : (K : List ℕ → Type 0) (ss : List StatementTree) → Each (λ (s : StatementTree). IsPhrase s.phrase) ss → Each K (all_names statement_names ss) → Each (Q K) ss
@@ -284,11 +293,11 @@ each_statement K (s ∷ ss) f h = let r = parts (statement_names s) h in record 
 
 symbols_few : (lines : Lines) (p : ParsedTree) (table : List SymbolTree) → IsBuilt p → parse_of lines ≡ Ok (p ∷ []) → symbols_of p ≡ Ok table → length (symbol_names table) ≤ characters lines
 unfolding parse_of
-symbols_few lines p table b h e = go (all_read [] lines.lines) refl h
+symbols_few lines p table b h e = go (statements_in lines.lines) refl h
   where
-    go : (r : Result (List StatementTree) Refused) → all_read [] lines.lines ≡ r → and_then r (λ ss. modules_from lines.closing [] [] ss) ≡ Ok (p ∷ []) → length (symbol_names table) ≤ characters lines
+    go : (r : Result (List StatementTree) Refused) → statements_in lines.lines ≡ r → and_then r (λ ss. modules_from lines.closing [] [] ss) ≡ Ok (p ∷ []) → length (symbol_names table) ≤ characters lines
     go (Ok ss) q g =
-        let a = read_short lines.lines [] ss tt q in
+        let a = read_short lines.lines [] ss tt (read-well lines.lines ss q).all in
         let all = all_names statement_names ss in
         let K : List ℕ → Type 0 = Known (fulls all) in
         let named = modules_naming K lines.closing ss [] (p ∷ []) [] tt tt (each_statement K ss a.formed (known_full all)) g in

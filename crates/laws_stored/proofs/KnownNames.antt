@@ -1,5 +1,5 @@
 -- The names of the table of a module are among those of its statements.
-use Rattle.std.proofs.Common.{◌≡◌, ℕ, suc, ◌+◌, Bool, true, false, List, [], ◌∷◌, ◌++◌, Ok, refl, sym, subst}
+use Rattle.std.proofs.Common.{◌≡◌, ℕ, suc, ◌+◌, ◌≤◌, Bool, true, false, List, [], ◌∷◌, ◌++◌, Ok, refl, sym, subst, arith}
 use Rattle.std.specs.Prelude.{Option, Some, None, if◌then◌else◌, not, ◌||◌, is_some, map}
 use Rattle.f77_ast.specs.declared.decl.Scalar.{Scalar}
 use Rattle.f77_ast.specs.declared.decl.Scalar.TheVariants.{Int, Log}
@@ -13,7 +13,7 @@ use Rattle.f77_ast.specs.Trees as tree
 use Rattle.f77_ast.specs.Hidden.{form_of_if}
 use Rattle.f77_ast.specs.DeclTrees.{ExtentTree, EntityTree, SettingTree, CommonTree, DataTree, DeclTree, ModuleTree, ParsedTree}
 use Rattle.f77_ast.specs.DeclTrees as decl
-use Rattle.f77_statements.specs.Phrases.{PhraseTree, program, subroutine, end_if, end_do, end_module}
+use Rattle.f77_statements.specs.Phrases.{PhraseTree, program, end_do, end_module}
 use Rattle.f77_ast.specs.Symbols.{SymbolTree}
 use Rattle.f77_names.specs.declared.functions.Function.{Function}
 use Rattle.f77_names.specs.declared.lines.Sited.TheVariants.{Decl, Statement, ElseIf, Title}
@@ -22,14 +22,19 @@ use Rattle.f77_names.specs.Functions.{function_of, arrays_named}
 use Rattle.f77_names.specs.Entries.{EntryTree, fresh, find, entry_names, seen, changed, with_dummy, as_parameter}
 use Rattle.f77_names.specs.Appearing.{unless_function, name_seen, expr_seen, exprs_seen, maybe_seen, head_of, head_seen, stmt_seen, what_seen, arm_seen, arms_seen, else_seen, loop_seen, stmts_seen}
 use Rattle.f77_names.specs.Declaring.{Told, bound_of, dummy_told, dummies_told, form_told, typed, shaped, in_common, extent_seen, extents_seen, entity_seen, typed_entity, typed_entities, shaped_entities, members_told, blocks_told, setting_told, settings_told, mention_told, item_told, items_told, groups_told, targets_told, save_told, saves_told, decl_told, decls_told}
-use Rattle.f77_names.specs.Tables.{no_names, title_told, table_of}
+use Rattle.f77_names.specs.Tables.{NameTable, no_names, title_told, table_of}
 use Rattle.f77_meaning.specs.Modules.{symbol_names}
 use Rattle.storage_layout.specs.Symbols.{symbols_of}
+use Rattle.f77_parser.specs.Elaborated.{meant_in}
 use Rattle.laws_programs.specs.roundtrip_programs.Statements.Formed.{Each}
 use Rattle.laws_programs.specs.roundtrip_programs.Statements.Phrased.{IsWhat, IsPhrase}
-use Rattle.laws_programs.specs.roundtrip_programs.ModuleTexts.Cards.{Card, card, cards_of, cards_by, block_cards, part_cards, else_cards, cards_in, title_cards, decl_cards, statements_of}
-use Rattle.laws_programs.specs.roundtrip_programs.ModuleTexts.Numbered.{TitleFits, last_of, last_arms, last_in, IsNumbered, NumberedBelow, NumberedBody, NumberedBlock, NumberedArms, NumberedElse, AreNumbered}
-use Rattle.laws_programs.proofs.RoundtripPrograms.Heads.{head_parts}
+use Rattle.laws_programs.specs.roundtrip_programs.ModuleTexts.Cards.{Card, card, if_head, if_end, cards_of, cards_by, block_cards, part_cards, else_cards, cards_in, head_phrase, title_cards, decl_cards, statements_of}
+use Rattle.laws_programs.specs.roundtrip_programs.ModuleTexts.Folded.{folded}
+use Rattle.laws_programs.specs.roundtrip_programs.ModuleTexts.Numbered.{TitleFits, FunctionFits, IsWell, last_of, last_by, last_arms, last_else, last_in, IsNumbered, NumberedBelow, NumberedBody, NumberedBlock, NumberedArms, NumberedElse, AreNumbered}
+use Rattle.laws_programs.proofs.RoundtripPrograms.ModuleTexts.Counting.{block-arms}
+use Rattle.laws_programs.proofs.RoundtripPrograms.ModuleTexts.FoldedLaws.{later-arms, later-else, later-in, arms-block, arms-shown}
+use Rattle.laws_programs.proofs.RoundtripPrograms.ElaboratedNames.{no-head, named-at, tables-written}
+use Rattle.laws_programs.proofs.RoundtripPrograms.Named.{AreNamed}
 use Rattle.laws_programs.proofs.RoundtripPrograms.ModuleTexts.Kept.{Held, Each-append}
 use Rattle.laws_programs.proofs.SymbolTables.KeptNames.{Said, with_said, Typed, Shaped, Shared, Parameter, Saved, Initial, Nothing}
 use Rattle.laws_programs.proofs.SymbolTables.Answers.{lines_in}
@@ -38,6 +43,10 @@ use Rattle.laws_lines.proofs.SymbolNames.{said_stay, names_of_symbols}
 use Rattle.laws_stored.proofs.NamesIn.{expr_names, exprs_names, maybe_names, all_names, what_names, extent_names, entity_names, setting_names, common_names, group_names, data_names, save_names, decl_names, phrase_names}
 use Rattle.laws_programs.proofs.RoundtripPrograms.ModuleTexts.Cards.{Any as AnyLabel}
 use Rattle.laws_programs.proofs.Layouts.DifferLaws.{names_more, names_changed}
+
+-- no line is known
+abbrev no_lines : LineTable
+no_lines s = None
 
 module _ (Name : List ℕ → Type 0) where
   abbrev Names : List (List ℕ) → Type 0
@@ -130,72 +139,79 @@ module _ (Name : List ℕ → Type 0) where
       plain_in (tree.print rest) id line es f h d = exprs_in rest h line es d
       plain_in (tree.read rest) id line es f h d = exprs_in rest h line es d
 
-      -- the left side and the function of an assignment of the value of a function
-      head_in : (arms : ArmTrees) (other : ElseTree) (id : ℕ) (label : Option ℕ) → AreNaming (cards_by id label (tree.block_if arms other)) → (line : ℕ) (es : List EntryTree) → AreTold es → AreTold (head_seen fs (head_of (form_of_if arms other)) line es)
-      head_in arms other id label h line es d =
-          head_parts (Held AnyLabel IsNaming) (λ o. AreTold (head_seen fs o line es)) d
-          (λ n i f x zero left a b. name_in f line (expr_seen fs left line es) a.1.1.first (expr_in left (apart (expr_names left) (expr_names (tree.name x)) b.1.1).0 line es d)) arms other id label h
+      -- the test of a block IF, or of the DO WHILE that it stands for
+      test_names : (c : Bool) (e : ExprTree) → IsNaming (if_head c e) → Names (expr_names e)
+      test_names true e h = h.1
+      test_names false e h = h.1
 
-      mutual
-        list_in : (n : ℕ) (t : StmtTrees) → AreNumbered n t → AreNaming (cards_in t) → (line : ℕ) (es : List EntryTree) → AreTold es → AreTold (stmts_seen fs at t line es)
-        list_in n tree.no_stmts a h line es d = d
-        list_in n (tree.more_stmts s rest) a h line es d =
-            let r = split (cards_of s) (cards_in rest) h in
-            list_in (last_of n s) rest a.behind r.1 line (stmt_seen fs at s line es) (stmt_in n s a.first r.0 line es d)
+      module _ (f : ℕ → Bool) where
+        mutual
+          list_in : (n : ℕ) (t : StmtTrees) → AreNumbered n t → last_in n t ≤ 4096 → AreNaming (cards_in f t) → (line : ℕ) (es : List EntryTree) → AreTold es → AreTold (stmts_seen fs at t line es)
+          list_in n tree.no_stmts a few h line es d = d
+          list_in n (tree.more_stmts s rest) a few h line es d =
+              let r = split (cards_of f s) (cards_in f rest) h in
+              let y = later-in (last_of n s) rest in
+              list_in (last_of n s) rest a.behind few r.1 line (stmt_seen fs at s line es) (stmt_in n s a.first (omega (arith, y, few)) r.0 line es d)
 
-        stmt_in : (n : ℕ) (s : StmtTree) → IsNumbered n s → AreNaming (cards_of s) → (line : ℕ) (es : List EntryTree) → AreTold es → AreTold (stmt_seen fs at s line es)
-        stmt_in n (tree.stmt id label w) a h line es d = what_in (n + 1) w id label a.below h (line_or at (Statement id) line) es d
+          stmt_in : (n : ℕ) (s : StmtTree) → IsNumbered n s → last_of n s ≤ 4096 → AreNaming (cards_of f s) → (line : ℕ) (es : List EntryTree) → AreTold es → AreTold (stmt_seen fs at s line es)
+          stmt_in n (tree.stmt id label w) a few h line es d = what_in (n + 1) w id label a.below few h (line_or at (Statement id) line) es d
 
-        what_in : (n : ℕ) (w : WhatTree) (id : ℕ) (label : Option ℕ) → NumberedBelow n w → AreNaming (cards_by id label w) → (line : ℕ) (es : List EntryTree) → AreTold es → AreTold (what_seen fs at w id line es)
-        what_in n (tree.assign u b) id label a h line es d = plain_in (tree.assign u b) id line es h.first.1.0 h.first.1.1 d
-        what_in n (tree.block_if arms other) id label a h line es d =
-            let heads = head_seen fs (head_of (form_of_if arms other)) line es in
-            let r = block_in n arms id label (else_cards id other ++ card (parts.Close id) None end_if ∷ []) a.parts h line heads (head_in arms other id label h line es d) in
-            else_in (last_arms n arms) other id a.last (split (else_cards id other) (card (parts.Close id) None end_if ∷ []) r.1).0 line (arms_seen fs at arms id 0 line heads) r.0
-        what_in n (tree.logical_if e (tree.stmt inner own w)) id label a h line es d =
-            let r = apart (expr_names e) (what_names w) h.first.1.1 in
-            plain_in w inner (line_or at (Statement inner) line) (expr_seen fs e line es) h.first.1.0.inner r.1 (expr_in e r.0 line es d)
-        what_in n (tree.do_loop l) id label a h line es d = loop_in n l id label a h line es d
-        what_in n (tree.call x rest) id label a h line es d = plain_in (tree.call x rest) id line es h.first.1.0 h.first.1.1 d
-        what_in n (tree.goto l) id label a h line es d = d
-        what_in n tree.continue id label a h line es d = d
-        what_in n tree.return id label a h line es d = d
-        what_in n (tree.stop text) id label a h line es d = d
-        what_in n (tree.print rest) id label a h line es d = plain_in (tree.print rest) id line es h.first.1.0 h.first.1.1 d
-        what_in n (tree.read rest) id label a h line es d = plain_in (tree.read rest) id line es h.first.1.0 h.first.1.1 d
+          what_in : (n : ℕ) (w : WhatTree) (id : ℕ) (label : Option ℕ) → NumberedBelow n w → last_by n w ≤ 4096 → AreNaming (cards_by f id label w) → (line : ℕ) (es : List EntryTree) → AreTold es
+              → AreTold (what_seen fs at w id line es)
+          what_in n (tree.assign u b) id label a few h line es d = plain_in (tree.assign u b) id line es h.first.1.0 h.first.1.1 d
+          what_in n (tree.block_if arms other) id label a few h line es d =
+              let x = later-else (last_arms n arms) other in
+              let heads = head_seen fs (head_of (form_of_if arms other)) line es in
+              let begun = subst AreTold (sym (no-head fs arms other line es (arms-block arms other (arms-shown n arms (block-arms n arms a.parts) (omega (arith, x, few)))))) d in
+              let r = block_in n arms id label (else_cards f id other ++ card (parts.Close id) None (if_end (f id)) ∷ []) a.parts (omega (arith, x, few)) h line heads begun in
+              else_in (last_arms n arms) other id a.last few (split (else_cards f id other) (card (parts.Close id) None (if_end (f id)) ∷ []) r.1).0 line (arms_seen fs at arms id 0 line heads) r.0
+          what_in n (tree.logical_if e (tree.stmt inner own w)) id label a few h line es d =
+              let r = apart (expr_names e) (what_names w) h.first.1.1 in
+              plain_in w inner (line_or at (Statement inner) line) (expr_seen fs e line es) h.first.1.0.inner r.1 (expr_in e r.0 line es d)
+          what_in n (tree.do_loop l) id label a few h line es d = loop_in n l id label a few h line es d
+          what_in n (tree.call x rest) id label a few h line es d = plain_in (tree.call x rest) id line es h.first.1.0 h.first.1.1 d
+          what_in n (tree.goto l) id label a few h line es d = d
+          what_in n tree.continue id label a few h line es d = d
+          what_in n tree.return id label a few h line es d = d
+          what_in n (tree.stop text) id label a few h line es d = d
+          what_in n (tree.print rest) id label a few h line es d = plain_in (tree.print rest) id line es h.first.1.0 h.first.1.1 d
+          what_in n (tree.read rest) id label a few h line es d = plain_in (tree.read rest) id line es h.first.1.0 h.first.1.1 d
 
-        loop_in : (n : ℕ) (l : LoopTree) (id : ℕ) (label : Option ℕ) → NumberedBody n l → AreNaming (cards_by id label (tree.do_loop l)) → (line : ℕ) (es : List EntryTree) → AreTold es → AreTold (loop_seen fs at l line es)
-        loop_in n (tree.loop index first last step body) id label a h line es d =
-            let names = h.first.1.1 in
-            let r = apart (expr_names first) (expr_names last ++ maybe_names step) names.others in
-            let q = apart (expr_names last) (maybe_names step) r.1 in
-            let b = name_seen fs index line es in
-            let c = expr_seen fs first line b in
-            let e = expr_seen fs last line c in
-            list_in n body a (split (cards_in body) (card (parts.Close id) None end_do ∷ []) h.others).0 line (maybe_seen fs step line e)
-            (maybe_in step q.1 line e (expr_in last q.0 line c (expr_in first r.0 line b (name_in index line es names.first d))))
+          loop_in : (n : ℕ) (l : LoopTree) (id : ℕ) (label : Option ℕ) → NumberedBody n l → last_by n (tree.do_loop l) ≤ 4096 → AreNaming (cards_by f id label (tree.do_loop l)) → (line : ℕ) (es : List EntryTree) → AreTold es
+              → AreTold (loop_seen fs at l line es)
+          loop_in n (tree.loop index first last step body) id label a few h line es d =
+              let names = h.first.1.1 in
+              let r = apart (expr_names first) (expr_names last ++ maybe_names step) names.others in
+              let q = apart (expr_names last) (maybe_names step) r.1 in
+              let b = name_seen fs index line es in
+              let c = expr_seen fs first line b in
+              let e = expr_seen fs last line c in
+              list_in n body a few (split (cards_in f body) (card (parts.Close id) None end_do ∷ []) h.others).0 line (maybe_seen fs step line e)
+              (maybe_in step q.1 line e (expr_in last q.0 line c (expr_in first r.0 line b (name_in index line es names.first d))))
 
-        block_in : (n : ℕ) (arms : ArmTrees) (id : ℕ) (label : Option ℕ) (end : List Card) → NumberedBlock n arms → AreNaming (block_cards id label arms end) → (line : ℕ) (es : List EntryTree) → AreTold es
-            → AreTold (arms_seen fs at arms id 0 line es) × AreNaming end
-        block_in n tree.no_arms id label end a h line es d = absurd a
-        block_in n (tree.more_arms (tree.arm test body) others) id label end a h line es d =
-            let r = split (cards_in body) (part_cards id 1 others end) h.others in
-            let here = line_or at (ElseIf id 0) line in
-            arms_in (last_in n body) others id 1 1 end a.parts r.1 line (arm_seen fs at (tree.arm test body) here es)
-            (list_in n body a.below r.0 here (expr_seen fs test here es) (expr_in test h.first.1.1 here es d))
+          block_in : (n : ℕ) (arms : ArmTrees) (id : ℕ) (label : Option ℕ) (end : List Card) → NumberedBlock n arms → last_arms n arms ≤ 4096 → AreNaming (block_cards f id label arms end) → (line : ℕ) (es : List EntryTree)
+              → AreTold es → AreTold (arms_seen fs at arms id 0 line es) × AreNaming end
+          block_in n tree.no_arms id label end a few h line es d = absurd a
+          block_in n (tree.more_arms (tree.arm test body) others) id label end a few h line es d =
+              let r = split (cards_in f body) (part_cards f id 1 others end) h.others in
+              let here = line_or at (ElseIf id 0) line in
+              let y = later-arms (last_in n body) others in
+              arms_in (last_in n body) others id 1 1 end a.parts few r.1 line (arm_seen fs at (tree.arm test body) here es)
+              (list_in n body a.below (omega (arith, y, few)) r.0 here (expr_seen fs test here es) (expr_in test (test_names (f id) test h.first.1) here es d))
 
-        arms_in : (n : ℕ) (arms : ArmTrees) (id place k : ℕ) (end : List Card) → NumberedArms n arms → AreNaming (part_cards id place arms end) → (line : ℕ) (es : List EntryTree) → AreTold es
-            → AreTold (arms_seen fs at arms id k line es) × AreNaming end
-        arms_in n tree.no_arms id place k end a h line es d = (d, h)
-        arms_in n (tree.more_arms (tree.arm test body) others) id place k end a h line es d =
-            let r = split (cards_in body) (part_cards id (place + 1) others end) h.others in
-            let here = line_or at (ElseIf id k) line in
-            arms_in (last_in n body) others id (place + 1) (suc k) end a.parts r.1 line (arm_seen fs at (tree.arm test body) here es)
-            (list_in n body a.below r.0 here (expr_seen fs test here es) (expr_in test h.first.1.1 here es d))
+          arms_in : (n : ℕ) (arms : ArmTrees) (id place k : ℕ) (end : List Card) → NumberedArms n arms → last_arms n arms ≤ 4096 → AreNaming (part_cards f id place arms end) → (line : ℕ) (es : List EntryTree) → AreTold es
+              → AreTold (arms_seen fs at arms id k line es) × AreNaming end
+          arms_in n tree.no_arms id place k end a few h line es d = (d, h)
+          arms_in n (tree.more_arms (tree.arm test body) others) id place k end a few h line es d =
+              let r = split (cards_in f body) (part_cards f id (place + 1) others end) h.others in
+              let here = line_or at (ElseIf id k) line in
+              let y = later-arms (last_in n body) others in
+              arms_in (last_in n body) others id (place + 1) (suc k) end a.parts few r.1 line (arm_seen fs at (tree.arm test body) here es)
+              (list_in n body a.below (omega (arith, y, few)) r.0 here (expr_seen fs test here es) (expr_in test h.first.1.1 here es d))
 
-        else_in : (n : ℕ) (other : ElseTree) (id : ℕ) → NumberedElse n other → AreNaming (else_cards id other) → (line : ℕ) (es : List EntryTree) → AreTold es → AreTold (else_seen fs at other line es)
-        else_in n tree.no_else id a h line es d = d
-        else_in n (tree.otherwise body) id a h line es d = list_in n body a h.others line es d
+          else_in : (n : ℕ) (other : ElseTree) (id : ℕ) → NumberedElse n other → last_else n other ≤ 4096 → AreNaming (else_cards f id other) → (line : ℕ) (es : List EntryTree) → AreTold es → AreTold (else_seen fs at other line es)
+          else_in n tree.no_else id a few h line es d = d
+          else_in n (tree.otherwise body) id a few h line es d = list_in n body a few h.others line es d
 
     -- ---- specification statements
 
@@ -296,26 +312,46 @@ module _ (Name : List ℕ → Type 0) where
 
   -- ---- modules
 
-  dummies_known : (main titled : Bool) (name : List ℕ) (dummies : List (List ℕ)) → TitleFits main titled name dummies
-      → AreNaming (if titled || not main then card parts.Title None (if main then program name else subroutine name dummies) ∷ [] else []) → Names dummies
-  dummies_known true true name dummies t h = subst Names (sym t) tt
-  dummies_known true false name dummies t h = subst Names (sym t.alone) tt
-  dummies_known false true name dummies t h = h.first.1.1
-  dummies_known false false name dummies t h = h.first.1.1
+  head_known : (function : Option FunctionForm) (name : List ℕ) (dummies : List (List ℕ)) → FunctionFits function false name dummies → IsNaming (head_phrase function name dummies) → Names dummies
+  head_known None name dummies g h = h.1
+  head_known (Some form) name dummies g h = subst Names g.last h.1
+
+  dummies_known : (main titled : Bool) (function : Option FunctionForm) (name : List ℕ) (dummies : List (List ℕ)) → TitleFits main titled name dummies → FunctionFits function main name dummies
+      → AreNaming (if titled || not main then card parts.Title None (if main then program name else head_phrase function name dummies) ∷ [] else []) → Names dummies
+  dummies_known true true function name dummies t g h = subst Names (sym t) tt
+  dummies_known true false function name dummies t g h = subst Names (sym t.alone) tt
+  dummies_known false true function name dummies t g h = head_known function name dummies g h.first.1
+  dummies_known false false function name dummies t g h = head_known function name dummies g h.first.1
+
+  told_named : (es : List EntryTree) → AreTold es → AreNamed Name es
+  told_named [] h = tt
+  told_named (e ∷ es) h = record { first = h.first; others = told_named es h.others }
+
+  named_told : (es : List EntryTree) → AreNamed Name es → AreTold es
+  named_told [] h = tt
+  named_told (e ∷ es) h = record { first = h.first; others = named_told es h.others }
+
+  -- of the module as it is written, whose names are those of the module
+  written_in : (m : ModuleTree) → IsWell m → AreNaming (statements_of m) → AreTold (table_of no_lines (folded m)).entries
+  unfolding statements_of folded
+  written_in m w c =
+      let fs = arrays_named m.decls in
+      let f = (meant_in m).is_while in
+      let body = (folded m).body in
+      let line = line_or no_lines Title 0 in
+      let t = dummies_told m.dummies 1 line no_names in
+      let u = title_told no_lines m in
+      let all = (split (title_cards m ++ decl_cards 0 m.decls ++ cards_in f body) (card parts.End None end_module ∷ []) c).0 in
+      let r = split (title_cards m ++ decl_cards 0 m.decls) (cards_in f body) all in
+      let q = split (title_cards m) (decl_cards 0 m.decls) r.0 in
+      list_in fs no_lines f 0 body w.body w.few r.1 0 (decls_told fs no_lines m.decls 0 u).entries
+      (decls_in fs no_lines m.decls 0 0 u q.1 (form_in m.function m.name line t (dummies_in m.dummies 1 line no_names (dummies_known m.main m.titled m.function m.name m.dummies w.title w.function q.0) tt)))
 
   table_in : (p : ParsedTree) → IsBuilt p → AreNaming (statements_of p.module_read) → AreTold (table_of (lines_in p) p.module_read).entries
-  unfolding statements_of
   table_in p b c =
       let m = p.module_read in
-      let at = lines_in p in
-      let fs = arrays_named m.decls in
-      let t = dummies_told m.dummies 1 (line_or at Title 0) no_names in
-      let u = title_told at m in
-      let all = (split (title_cards m ++ decl_cards 0 m.decls ++ cards_in m.body) (card parts.End None end_module ∷ []) c).0 in
-      let r = split (title_cards m ++ decl_cards 0 m.decls) (cards_in m.body) all in
-      let q = split (title_cards m) (decl_cards 0 m.decls) r.0 in
-      list_in fs at 0 m.body b.well.body r.1 0 (decls_told fs at m.decls 0 u).entries
-      (decls_in fs at m.decls 0 0 u q.1 (form_in m.function m.name (line_or at Title 0) t (dummies_in m.dummies 1 (line_or at Title 0) no_names (dummies_known m.main m.titled m.name m.dummies b.well.title q.0) tt)))
+      let written = subst (λ (t : NameTable). AreTold t.entries) (sym (tables-written m b.well)) (written_in m b.well c) in
+      named_told (table_of (lines_in p) m).entries (named-at Name (lines_in p) m (told_named (table_of no_lines m).entries written))
 
   pub symbols_in : (p : ParsedTree) (ss : List SymbolTree) → IsBuilt p → AreNaming (statements_of p.module_read) → symbols_of p ≡ Ok ss → Each Name (symbol_names ss)
   symbols_in p ss b c e = subst Names (sym (names_of_symbols p ss e)) (table_in p b c)

@@ -15,7 +15,7 @@ use Rattle.f77_printer.specs.ExprText.{expr_text, exprs_text, items_text}
 use Rattle.f77_printer.specs.Layout.{stripped}
 use Rattle.f77_printer.specs.StatementText.{actuals_text, step_text, what_text}
 use Rattle.f77_printer.specs.DeclText.{others_by, joined_by, low_text, high_text, extent_text, bounds_text, entity_text, setting_text, settings_text, block_text, common_text, other_commons_text, commons_text, group_text, save_item_text, save_text, data_value_text, data_group_text, other_groups_text, data_text, decl_text}
-use Rattle.f77_printer.specs.ModuleText.{dummies_text}
+use Rattle.f77_printer.specs.ModuleText.{dummies_text, function_word}
 use Rattle.laws_programs.specs.roundtrip_programs.Statements.Written.{phrase_text}
 use Rattle.laws_programs.proofs.RoundtripPrograms.Statements.Fits.{statements_fit}
 
@@ -91,10 +91,11 @@ decl_names (decl.equivalence gs) = all_names group_names gs
 decl_names (decl.save is) = all_names save_names is
 decl_names (decl.initial gs) = all_names data_names gs
 
--- of a module's name and those of other modules there is no symbol
+-- of a module's name and those of other modules there is no symbol, but for the name of a function: it is the result
 abbrev pub phrase_names : PhraseTree → List (List ℕ)
 phrase_names (phrases.program n) = []
 phrase_names (phrases.subroutine n ds) = ds
+phrase_names (phrases.function form n ds) = ds ++ n ∷ []
 phrase_names (phrases.specification d) = decl_names d
 phrase_names (phrases.simple w) = what_names w
 phrase_names (phrases.logical_if e w) = expr_names e ++ what_names w
@@ -103,6 +104,7 @@ phrase_names (phrases.else_if e) = expr_names e
 phrase_names phrases.else_part = []
 phrase_names phrases.end_if = []
 phrase_names (phrases.do_head d) = d.index ∷ (expr_names d.first ++ (expr_names d.last ++ maybe_names d.step))
+phrase_names (phrases.while_head l e) = expr_names e
 phrase_names phrases.end_do = []
 phrase_names phrases.end_module = []
 
@@ -332,9 +334,18 @@ dummies_short (d ∷ ds) =
     let u = three (codes "(") (joined_by (λ n. n) (d ∷ ds)) (codes ")") in
     omega (arith, h, t, u)
 
+enclosed_short : (ds : List (List ℕ)) → size ds ≤ dark (codes "(" ++ joined_by (λ d. d) ds ++ codes ")")
+enclosed_short [] = omega arith
+enclosed_short (d ∷ ds) = dummies_short (d ∷ ds)
+
 phrase_short : (p : PhraseTree) → size (phrase_names p) ≤ dark (phrase_text p)
 phrase_short (phrases.program n) = omega arith
 phrase_short (phrases.subroutine n ds) = let h = dummies_short ds in let t = three (codes "SUBROUTINE ") n (dummies_text ds) in omega (arith, h, t)
+phrase_short (phrases.function form n ds) =
+    let h = enclosed_short ds in
+    let s = size-append ds (n ∷ []) in
+    let t = three (function_word form) n (codes "(" ++ joined_by (λ d. d) ds ++ codes ")") in
+    omega (arith, h, s, t)
 phrase_short (phrases.specification d) = decl_short d
 phrase_short (phrases.simple w) = what_short w
 phrase_short (phrases.logical_if e w) =
@@ -356,6 +367,7 @@ phrase_short (phrases.do_head d) =
     let t = four (codes "DO ") d.index (codes " = ") (expr_text d.first) in
     let u = four (codes "DO " ++ d.index ++ codes " = " ++ expr_text d.first) (codes ",") (expr_text d.last) (step_text d.step) in
     omega (arith, h, i, j, s, r, t, u)
+phrase_short (phrases.while_head l e) = let h = expr_short e in let t = three (codes "DO WHILE (") (expr_text e) (codes ")") in omega (arith, h, t)
 phrase_short phrases.end_do = omega arith
 phrase_short phrases.end_module = omega arith
 

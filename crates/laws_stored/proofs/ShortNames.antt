@@ -20,7 +20,8 @@ use Rattle.storage_layout.specs.Symbols.{symbols_of}
 use Rattle.laws_programs.specs.roundtrip_programs.Statements.Formed.{IsName, Each, Filled, IsVariable, Rank, Formed, number, logical, constant, scalar, indexed, enclosed, operand, raised, factor, multiplied, term, signed, added, arithmetic, compared, asserted, denied, conjunct, both, disjunct, either, side, equated, none, more}
 use Rattle.laws_programs.specs.roundtrip_programs.Statements.Formed as formed
 use Rattle.laws_programs.specs.roundtrip_programs.Statements.Declared.{MaybeExpression, IsExtent, IsEntity, IsArray, IsSetting, IsCommon, IsGroup, IsSaved, IsInitial, AreTyped, IsDecl}
-use Rattle.laws_programs.specs.roundtrip_programs.Statements.Phrased.{AllVariables, IsWhat, IsPhrase}
+use Rattle.laws_programs.specs.roundtrip_programs.Statements.Phrased.{AllVariables, IsRight, IsWhat, IsPhrase}
+use Rattle.laws_programs.specs.roundtrip_programs.Statements.Phrased as phrased
 use Rattle.laws_programs.specs.roundtrip_programs.ModuleTexts.Cards.{statements_of}
 use Rattle.laws_programs.proofs.RoundtripPrograms.ModuleTexts.Kept.{Held, Each-append, each-map}
 use Rattle.base_json.specs.Scopes.{in_name, is_name, is_short_name}
@@ -115,8 +116,12 @@ variables_words (tree.more_exprs v rest) h = join (expr_names v) (exprs_names re
 
 -- ---- statements
 
+right_words : {e : ExprTree} → IsRight e → Words (expr_names e)
+right_words (phrased.value e f) = expr_words f
+right_words (phrased.empty_call x h) = record { first = word x h; others = tt }
+
 what_words : (w : WhatTree) → IsWhat w → Words (what_names w)
-what_words (tree.assign a b) h = join (expr_names a) (expr_names b) (variable_words a h.left) (expr_words h.right)
+what_words (tree.assign a b) h = join (expr_names a) (expr_names b) (variable_words a h.left) (right_words h.right)
 what_words (tree.block_if arms other) h = absurd h
 what_words (tree.logical_if e s) h = absurd h
 what_words (tree.do_loop l) h = absurd h
@@ -166,6 +171,7 @@ decl_words (decl.initial gs) h = all_words IsInitial data_names (λ g i. variabl
 phrase_words : (p : PhraseTree) → IsPhrase p → Words (phrase_names p)
 phrase_words (phrases.program n) h = tt
 phrase_words (phrases.subroutine n ds) h = each-map IsName IsWord ds word h.dummies
+phrase_words (phrases.function form n ds) h = join ds (n ∷ []) (each-map IsName IsWord ds word h.dummies) (record { first = word n h.name; others = tt })
 phrase_words (phrases.specification d) h = decl_words d h
 phrase_words (phrases.simple w) h = what_words w h
 phrase_words (phrases.logical_if e w) h = join (expr_names e) (what_names w) (expr_words h.test) (what_words w h.inner)
@@ -177,6 +183,7 @@ phrase_words (phrases.do_head d) h = record {
   first = word d.index h.index;
   others = join (expr_names d.first) (expr_names d.last ++ maybe_names d.step) (expr_words h.first) (join (expr_names d.last) (maybe_names d.step) (expr_words h.last) (maybe_words d.step h.step));
 }
+phrase_words (phrases.while_head l e) h = expr_words h
 phrase_words phrases.end_do h = tt
 phrase_words phrases.end_module h = tt
 

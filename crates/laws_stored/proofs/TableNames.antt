@@ -1,11 +1,13 @@
 -- Modules that were read have names of FORTRAN: their own, those of their symbols, and those of blocks.
 use Rattle.std.proofs.Common.{◌≡◌, ℕ, zero, suc, ◌+◌, Bool, true, false, List, [], ◌∷◌, ◌++◌, map, None, Ok, Some, refl, sym, subst}
-use Rattle.std.specs.Prelude.{if◌then◌else◌, ◌||◌, not, bytes_eq, slice_get, flat_map}
+use Rattle.std.specs.Prelude.{Option, if◌then◌else◌, ◌||◌, not, bytes_eq, slice_get, flat_map}
 use Rattle.std.proofs.lemmas.Slice.Eq.{bytes_eq-Decides}
+use Rattle.f77_ast.specs.declared.module.FunctionForm.{FunctionForm}
 use Rattle.f77_ast.specs.declared.places.Part.TheVariants as parts
 use Rattle.f77_ast.specs.DeclTrees.{CommonTree, DeclTree, ModuleTree, ParsedTree}
 use Rattle.f77_ast.specs.DeclTrees as decl
-use Rattle.f77_statements.specs.Phrases.{program, subroutine, end_module}
+use Rattle.f77_statements.specs.Phrases.{program, end_module}
+use Rattle.f77_parser.specs.Elaborated.{meant_in}
 use Rattle.f77_ast.specs.declared.symbol.Place.{Place}
 use Rattle.f77_ast.specs.declared.symbol.Place.TheVariants.{Local, Dummy, Block, Constant}
 use Rattle.f77_ast.specs.Symbols.{SymbolTree}
@@ -15,7 +17,8 @@ use Rattle.storage_layout.specs.Symbols.{symbols_of}
 use Rattle.laws_programs.specs.roundtrip_programs.Statements.Formed.{Each as All, Filled}
 use Rattle.laws_programs.specs.roundtrip_programs.Statements.Phrased.{IsPhrase}
 use Rattle.laws_programs.specs.roundtrip_programs.Statements.Declared.{IsBlock, IsCommon, IsDecl}
-use Rattle.laws_programs.specs.roundtrip_programs.ModuleTexts.Cards.{Card, card, cards_in, title_cards, decl_cards, statements_of}
+use Rattle.laws_programs.specs.roundtrip_programs.ModuleTexts.Cards.{Card, card, head_phrase, cards_in, title_cards, decl_cards, statements_of}
+use Rattle.laws_programs.specs.roundtrip_programs.ModuleTexts.Folded.{folded}
 use Rattle.laws_programs.specs.roundtrip_programs.ModuleTexts.Numbered.{TitleFits}
 use Rattle.laws_programs.proofs.RoundtripPrograms.ModuleTexts.Kept.{Held, Each-append, each-map}
 use Rattle.laws_programs.proofs.RoundtripPrograms.Body.{AreCards, left_of, right_of}
@@ -31,24 +34,30 @@ use Rattle.laws_programs.proofs.RoundtripPrograms.ModuleTexts.Cards.{Any as AnyL
 -- what stands before the statements
 pub heads : (m : ModuleTree) → AreCards (statements_of m) → AreCards (title_cards m ++ decl_cards 0 m.decls)
 unfolding statements_of
-heads m k = left_of (title_cards m ++ decl_cards 0 m.decls) (cards_in m.body) (left_of (title_cards m ++ decl_cards 0 m.decls ++ cards_in m.body) (card parts.End None end_module ∷ []) k)
+heads m k =
+    let cs = cards_in (meant_in m).is_while (folded m).body in
+    left_of (title_cards m ++ decl_cards 0 m.decls) cs (left_of (title_cards m ++ decl_cards 0 m.decls ++ cs) (card parts.End None end_module ∷ []) k)
 
 formed : (p : ParsedTree) → IsBuilt p → AreCards (statements_of p.module_read)
 formed p b = each-map (Held AnyLabel IsPhrase) (λ (c : Card). IsPhrase c.phrase) (statements_of p.module_read) (λ c h. h.1) b.formed
 
 -- ---- its name
 
-titled_named : (main titled : Bool) (name : List ℕ) (dummies : List (List ℕ)) → TitleFits main titled name dummies
-    → AreCards (if titled || not main then card parts.Title None (if main then program name else subroutine name dummies) ∷ [] else []) → IsWord name
-titled_named true true name dummies f k = word name k.first
-titled_named true false name dummies f k = subst IsWord (sym f.unnamed) refl
-titled_named false true name dummies f k = cc
-titled_named false false name dummies f k = word name k.first.name
+head_named : (function : Option FunctionForm) (name : List ℕ) (dummies : List (List ℕ)) → IsPhrase (head_phrase function name dummies) → IsWord name
+head_named None name dummies k = word name k.name
+head_named (Some form) name dummies k = word name k.name
+
+titled_named : (main titled : Bool) (function : Option FunctionForm) (name : List ℕ) (dummies : List (List ℕ)) → TitleFits main titled name dummies
+    → AreCards (if titled || not main then card parts.Title None (if main then program name else head_phrase function name dummies) ∷ [] else []) → IsWord name
+titled_named true true function name dummies f k = word name k.first
+titled_named true false function name dummies f k = subst IsWord (sym f.unnamed) refl
+titled_named false true function name dummies f k = cc
+titled_named false false function name dummies f k = head_named function name dummies k.first
 
 title_named : (p : ParsedTree) → IsBuilt p → IsWord p.module_read.name
 title_named p b =
     let m = p.module_read in
-    titled_named m.main m.titled m.name m.dummies b.well.title (left_of (title_cards m) (decl_cards 0 m.decls) (heads m (formed p b)))
+    titled_named m.main m.titled m.function m.name m.dummies b.well.title (left_of (title_cards m) (decl_cards 0 m.decls) (heads m (formed p b)))
 
 -- ---- blocks
 

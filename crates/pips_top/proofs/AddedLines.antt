@@ -1,10 +1,11 @@
 -- Each line that is added to a module is a comment line that reading drops.
-use Rattle.std.proofs.Common.{ℕ, zero, suc, Bool, true, false, List, [], ◌∷◌, ◌++◌, Option, Some, None, ◌≡◌, refl, sym, subst}
+use Rattle.std.proofs.Common.{ℕ, zero, suc, Bool, true, false, not, List, [], ◌∷◌, ◌++◌, Option, Some, None, ◌≡◌, refl, sym, subst}
 use Rattle.std.specs.Prelude.{if◌then◌else◌, bytes_eq, slice_get}
 use Rattle.std.specs.List.{AllByRecursion}
 use Rattle.affine_systems.specs.declared.row.System.{System}
 use Rattle.f77_ast.specs.Trees.{StmtTree, WhatTree, ArmTree, ArmTrees, ElseTree, LoopTree, StmtTrees}
 use Rattle.f77_ast.specs.Trees as tree
+use Rattle.f77_ast.specs.Hidden.{is_hidden}
 use Rattle.f77_ast.specs.DeclTrees.{ParsedTree}
 use Rattle.f77_printer.specs.declared.added.Added.{Added}
 use Rattle.call_graph.specs.declared.graph.Graph.{Graph}
@@ -16,7 +17,7 @@ use Rattle.pipsmake_base.specs.module_phases.InPhases.{ModuleIns, all_ins}
 use Rattle.pipsmake_base.specs.module_phases.OutPhases.{ModuleOuts, all_outs}
 use Rattle.pipsmake_base.specs.loop_marker.Results.{ModuleResults}
 use Rattle.pipsmake_base.specs.loop_marker.Phases.{phases_of, analysis_in, all_marks}
-use Rattle.pipsmake_base.specs.result_lines.ScalarLines.{Said, before, holds_lines, changes_lines, does_lines, says_changes, own_lines, stmt_lines, part_lines, list_lines, arms_lines, arm_lines, else_lines, loop_lines, entry_lines, said}
+use Rattle.pipsmake_base.specs.result_lines.ScalarLines.{Said, before, holds_lines, changes_lines, does_lines, says_changes, visible_lines, own_lines, stmt_lines, part_lines, list_lines, arms_lines, arm_lines, else_lines, loop_lines, entry_lines, said}
 use Rattle.system_text.specs.SystemText.{precondition_line, transformer_line}
 use Rattle.laws_programs.specs.roundtrip_programs.Statements.Formed.{Each}
 use Rattle.laws_programs.proofs.RoundtripPrograms.ModuleTexts.Kept.{Each-append}
@@ -76,10 +77,13 @@ module _ (law : LinesArePassedOver) (names : List (List ℕ)) (shown : AreShown 
   entry-over false p t = join (before 0 (precondition_line names p) ∷ []) (changes_lines names 0 t.cells t.system) (one 0 (precondition_line names p) (law names [] p shown).0) (changes-over 0 t.cells t.system)
 
 module _ (law : LinesArePassedOver) (k : Said) (shown : AreShown k.names) where
-  own-over : (n : ℕ) (w : WhatTree) → AreOver (own_lines n w k)
-  own-over n w =
+  visible-over : (n : ℕ) (w : WhatTree) → AreOver (visible_lines n w k)
+  visible-over n w =
       join (holds_lines k.names n (k.holds n)) (if says_changes w then does_lines k.names n (k.does n) else [])
       (holds-over law k.names shown n (k.holds n)) (if-over law k.names shown (says_changes w) (does_lines k.names n (k.does n)) (does-over law k.names shown n (k.does n)))
+
+  own-over : (n : ℕ) (w : WhatTree) → AreOver (own_lines n w k)
+  own-over n w = if-over law k.names shown (not (is_hidden n)) (visible_lines n w k) (visible-over n w)
 
   mutual
     stmt-over : (s : StmtTree) → AreOver (stmt_lines s k)

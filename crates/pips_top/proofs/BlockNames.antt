@@ -1,16 +1,17 @@
 -- The names of modules, of their symbols and of their blocks are words, and of printable ASCII.
-use Rattle.std.proofs.Common.{◌≡◌, ℕ, zero, suc, ◌+◌, Bool, true, false, List, [], ◌∷◌, ◌++◌, map, None, Ok, Some, arith, refl, sym, ◌∙◌, subst, nat_eq}
+use Rattle.std.proofs.Common.{◌≡◌, ℕ, zero, suc, ◌+◌, Bool, true, false, List, [], ◌∷◌, ◌++◌, map, Option, None, Ok, Some, arith, refl, sym, ◌∙◌, subst, nat_eq}
 use Rattle.std.specs.Prelude.{All as Every, if◌then◌else◌, ◌||◌, not, bytes_eq, slice_get, flat_map, codes}
 use Rattle.std.specs.Char.{is_ascii_digit, is_ascii_uppercase}
 use Rattle.std.specs.List.{AllByRecursion, list_all}
 use Rattle.std.proofs.lemmas.Bool.{and_from, and_parts, or_left}
 use Rattle.std.proofs.lemmas.Slice.Eq.{bytes_eq-Decides}
+use Rattle.f77_ast.specs.declared.module.FunctionForm.{FunctionForm}
 use Rattle.f77_ast.specs.declared.places.Part.TheVariants as parts
 use Rattle.f77_ast.specs.DeclTrees.{CommonTree, DeclTree, ModuleTree, ParsedTree}
 use Rattle.f77_ast.specs.DeclTrees as decl
 use Rattle.f77_exprs.specs.Lexical.{skip_name}
 use Rattle.f77_exprs.specs.Lexical as lexical
-use Rattle.f77_statements.specs.Phrases.{program, subroutine, end_module}
+use Rattle.f77_statements.specs.Phrases.{program}
 use Rattle.f77_ast.specs.declared.symbol.Place.{Place}
 use Rattle.f77_ast.specs.declared.symbol.Place.TheVariants.{Local, Dummy, Block, Constant}
 use Rattle.f77_ast.specs.Symbols.{SymbolTree}
@@ -20,9 +21,10 @@ use Rattle.storage_layout.specs.Symbols.{symbols_of}
 use Rattle.laws_programs.specs.roundtrip_programs.Statements.Formed.{IsName, Each, Filled}
 use Rattle.laws_programs.specs.roundtrip_programs.Statements.Phrased.{IsPhrase}
 use Rattle.laws_programs.specs.roundtrip_programs.Statements.Declared.{IsBlock, IsCommon, IsDecl}
-use Rattle.laws_programs.specs.roundtrip_programs.ModuleTexts.Cards.{Card, card, cards_in, title_cards, decl_cards, statements_of}
+use Rattle.laws_programs.specs.roundtrip_programs.ModuleTexts.Cards.{Card, card, head_phrase, title_cards, decl_cards, statements_of}
 use Rattle.laws_programs.specs.roundtrip_programs.ModuleTexts.Numbered.{TitleFits, IsWell}
-use Rattle.laws_programs.proofs.RoundtripPrograms.ModuleTexts.Kept.{Held, Each-append, each-map}
+use Rattle.laws_programs.proofs.RoundtripPrograms.ModuleTexts.Each.{Each-append, each-map}
+use Rattle.laws_programs.proofs.RoundtripPrograms.ModuleTexts.Kept.{Held}
 use Rattle.laws_programs.specs.roundtrip_programs.Lines.{IsShown, AreShown}
 use Rattle.laws_programs.specs.roundtrip_programs.Programs.{IsFormed, NamesAreShown}
 use Rattle.laws_programs.proofs.RoundtripPrograms.Names.{name_shown}
@@ -44,17 +46,21 @@ formed m b = each-map (Held AnyLabel IsPhrase) (λ (c : Card). IsPhrase c.phrase
 -- ---- of each name that the grammar gives
 
 module _ (Name : List ℕ → Type 0) (named : (x : List ℕ) → IsName x → Name x) (blank : Name []) (unnamed : Name (codes "MAIN")) where
-  titled_named : (main titled : Bool) (name : List ℕ) (dummies : List (List ℕ)) → TitleFits main titled name dummies
-      → AreCards (if titled || not main then card parts.Title None (if main then program name else subroutine name dummies) ∷ [] else []) → Name name
-  titled_named true true name dummies f k = named name k.first
-  titled_named true false name dummies f k = subst Name (sym f.unnamed) unnamed
-  titled_named false true name dummies f k = cc
-  titled_named false false name dummies f k = named name k.first.name
+  head_named : (function : Option FunctionForm) (name : List ℕ) (dummies : List (List ℕ)) → IsPhrase (head_phrase function name dummies) → Name name
+  head_named None name dummies k = named name k.name
+  head_named (Some form) name dummies k = named name k.name
+
+  titled_named : (main titled : Bool) (function : Option FunctionForm) (name : List ℕ) (dummies : List (List ℕ)) → TitleFits main titled name dummies
+      → AreCards (if titled || not main then card parts.Title None (if main then program name else head_phrase function name dummies) ∷ [] else []) → Name name
+  titled_named true true function name dummies f k = named name k.first
+  titled_named true false function name dummies f k = subst Name (sym f.unnamed) unnamed
+  titled_named false true function name dummies f k = cc
+  titled_named false false function name dummies f k = head_named function name dummies k.first
 
   title_named : (p : ParsedTree) → IsWell p.module_read → IsFormed p → Name p.module_read.name
   title_named p w f =
       let m = p.module_read in
-      titled_named m.main m.titled m.name m.dummies w.title (left_of (title_cards m) (decl_cards 0 m.decls) (heads m f))
+      titled_named m.main m.titled m.function m.name m.dummies w.title (left_of (title_cards m) (decl_cards 0 m.decls) (heads m f))
 
   -- ---- blocks
 

@@ -1,9 +1,10 @@
 -- The lines of claims are no lines for compilers.
-use Rattle.std.proofs.Common.{◌≡◌, ℕ, Bool, true, false, List, [], ◌∷◌, ◌++◌, Option, Some, None, refl}
+use Rattle.std.proofs.Common.{◌≡◌, ℕ, Bool, true, false, not, List, [], ◌∷◌, ◌++◌, Option, Some, None, refl}
 use Rattle.std.specs.Prelude.{if◌then◌else◌}
 use Rattle.affine_systems.specs.declared.row.System.{System}
 use Rattle.f77_ast.specs.Trees.{StmtTree, WhatTree, ArmTree, ArmTrees, ElseTree, LoopTree, StmtTrees}
 use Rattle.f77_ast.specs.Trees as tree
+use Rattle.f77_ast.specs.Hidden.{is_hidden}
 use Rattle.f77_printer.specs.declared.added.Added.{Added}
 use Rattle.f77_ast.specs.declared.results.At.{At}
 use Rattle.f77_ast.specs.declared.results.Results.{Results}
@@ -55,10 +56,13 @@ entry_plain true names p t = tt
 entry_plain false names p t = record { first = refl; others = changes_plain names 0 t.cells t.system }
 
 module _ (k : Said) where
-  own_plain : (n : ℕ) (w : WhatTree) → ArePlain (scalar.own_lines n w k)
-  own_plain n w =
+  visible_plain : (n : ℕ) (w : WhatTree) → ArePlain (scalar.visible_lines n w k)
+  visible_plain n w =
       join (holds_lines k.names n (k.holds n)) (if says_changes w then does_lines k.names n (k.does n) else []) (holds_plain k.names n (k.holds n))
       (if_plain (says_changes w) (does_lines k.names n (k.does n)) (does_plain k.names n (k.does n)))
+
+  own_plain : (n : ℕ) (w : WhatTree) → ArePlain (scalar.own_lines n w k)
+  own_plain n w = if_plain (not (is_hidden n)) (scalar.visible_lines n w k) (visible_plain n w)
 
   mutual
     stmt_plain : (s : StmtTree) → ArePlain (scalar.stmt_lines s k)
@@ -115,7 +119,9 @@ module _ (names : List (List ℕ)) (sets : List (At (List Region))) where
   found_plain n (Some rs) = set_plain n rs
 
   own_set_plain : (n : ℕ) (w : WhatTree) → ArePlain (region.own_lines n w names sets)
-  own_set_plain n w = if_plain (says_changes w) (found_lines names n (value_at sets n)) (found_plain n (value_at sets n))
+  own_set_plain n w =
+      if_plain (not (is_hidden n)) (region.visible_lines n w names sets)
+      (if_plain (says_changes w) (found_lines names n (value_at sets n)) (found_plain n (value_at sets n)))
 
   mutual
     stmt_sets_plain : (s : StmtTree) → ArePlain (region.stmt_lines s names sets)

@@ -25,13 +25,13 @@ use Rattle.pipsmake_base.specs.module_phases.InPhases.{ModuleIns, ins_found}
 use Rattle.pipsmake_base.specs.module_phases.OutPhases.{used_after, outs_found}
 use Rattle.pipsmake_base.specs.loop_marker.Results.{ModuleResults}
 use Rattle.pipsmake_base.specs.loop_marker.Phases.{phases_of, analysis_in}
+use Rattle.laws_programs.specs.roundtrip_programs.ModuleTexts.Folded.{folded}
 use Rattle.laws_programs.specs.roundtrip_programs.ModuleTexts.Numbered.{last_in}
 use Rattle.laws_programs.specs.roundtrip_programs.Statements.Formed.{Each}
 use Rattle.laws_programs.specs.Programs.{IsProgram}
 use Rattle.laws_programs.proofs.Sources.{IsBuilt, all_built}
-use Rattle.laws_programs.proofs.Numbers.{has_numbers}
 use Rattle.laws_programs.proofs.Tables.{programs_are_linked}
-use Rattle.laws_programs.proofs.Whole.{numbers_go_up}
+use Rattle.laws_programs.proofs.Whole.{bodies_numbered}
 use Rattle.call_graph.specs.CallsIn.{Each as EachOne}
 use Rattle.laws_analyses.proofs.Statements.MainResults.{found_at}
 use Rattle.laws_analyses.proofs.Statements.NumberLaws.{ids, own_numbers}
@@ -116,7 +116,7 @@ module _ (p : ProgramTree) (i : IsProgram p.modules p.tables p.graph) (whole : A
   numbered j f e =
       let k = known_back p whole j f e in
       let m = module_there p.modules p.tables k.0 f.known k.1 in
-      subst (λ (t : ModuleTree). HasNumbers t.body) m.2 (has_numbers m.0.module_read.body (numbers_go_up i.lines p.modules i.parsed k.0 m.0 m.1))
+      subst (λ (t : ModuleTree). HasNumbers t.body) m.2 (bodies_numbered i.lines p.modules i.parsed k.0 m.0 m.1)
 
   covered_at : (j : ℕ) (f : ModuleResults) → slice_get (results_of_program p) j ≡ Some f → IsCovered f
   covered_at j f e =
@@ -132,7 +132,7 @@ module _ (p : ProgramTree) (i : IsProgram p.modules p.tables p.graph) (whole : A
         regions = has_set f.regions body (ap (λ (r : Results (List Region)). ids r.at) from.regions ∙ regions_ids g.untracked (region_summaries fs) (analysis_in (phases_of f))) n;
         ins = has_set f.ins body (ap (λ (r : Results (List Region)). ids r.at) from.ins ∙ ins_ids g.untracked (in_summaries fs) (phases_of f).known.known) n;
         outs = has_set f.outs body (ap (λ (r : Results (List Region)). ids r.at) from.outs ∙ outs_ids g (later_sites g.untracked (callers fs (name_in f)) (name_in f)) (phases_of f).known) n;
-        marks = λ l m q. (let b = mark_number f.marks l m (ap (λ ns. slice_get ns l) count ∙ q) in ap is_some (ap (value_at f.marks) (sym b.2) ∙ value_there f.marks l 0 (last_in 0 body) b.0 rise b.1));
+        marks = λ l m q. (let b = mark_number f.marks l m (ap (λ ns. slice_get ns l) count ∙ q) in ap is_some (ap (value_at f.marks) (sym b.2) ∙ value_there f.marks l 0 (last_in 0 (folded f.known.read).body) b.0 rise b.1));
       }
 
   covered : AreCovered (known_of p.modules p.tables) (results_of_program p)

@@ -17,9 +17,8 @@ use Rattle.f77_ast.specs.declared.marks.Mark.TheVariants.{Parallel}
 use Rattle.pipsmake_base.specs.loop_marker.Results.{ModuleResults}
 use Rattle.pipsmake_base.specs.loop_marker.Phases.{phases_of}
 use Rattle.laws_programs.specs.roundtrip_programs.Statements.Formed.{Each}
-use Rattle.laws_programs.specs.roundtrip_programs.ModuleTexts.Cards.{cards_in}
-use Rattle.laws_programs.specs.roundtrip_programs.ModuleTexts.Numbered.{last_in, AreNumbered}
-use Rattle.laws_programs.proofs.RoundtripPrograms.Body.{AreCards}
+use Rattle.laws_programs.specs.roundtrip_programs.ModuleTexts.Folded.{folded}
+use Rattle.laws_programs.specs.roundtrip_programs.ModuleTexts.Numbered.{last_in, IsWell}
 use Rattle.laws_lines.specs.Marks.Marked.{loops_in}
 use Rattle.laws_lines.specs.Marks.MarkedLoops.{name_in, directives_found}
 use Rattle.laws_lines.proofs.Marks.MarkNumbers.{Rise, loops_rise}
@@ -28,10 +27,9 @@ use Rattle.laws_programs.proofs.Sources.{IsBuilt}
 use Rattle.laws_analyses.specs.Coverage.{AreWhole}
 use Rattle.pips_top.specs.Program.{ProgramTree}
 use Rattle.pips_top.specs.Shown.{results_of_program}
-use Rattle.pips_top.proofs.BlockNames.{formed}
 use Rattle.pips_top.proofs.Said.{marks_are}
 use Rattle.pips_top.proofs.ModulesSaid.{known_back}
-use Rattle.pips_top.proofs.Marking.{body_cards, found_numbers, got}
+use Rattle.pips_top.proofs.Marking.{found_numbers, got}
 use Rattle.pips_top.proofs.DirectivesFound.{module_there}
 use Rattle.in_out_regions.proofs.TransformerAlgebra.Members.{in_at}
 use Rattle.laws_lines.proofs.Marks.Cases.{numbers}
@@ -82,26 +80,24 @@ IsFoundMark fs x n xs =
 -- its marks are those of its DO statements
 record AreLoops (f : ModuleResults) : Type 0 where
   count : numbers f.marks ≡ loops_in f.known.read.body
-  rise : Rise 0 (last_in 0 f.known.read.body) (numbers f.marks)
+  rise : Rise 0 (last_in 0 (folded f.known.read).body) (numbers f.marks)
 
 marks_loops : (p : ProgramTree) → AreWhole (known_of p.modules p.tables) (analyses (known_of p.modules p.tables) p.graph) → Each IsBuilt p.modules → (j : ℕ) (f : ModuleResults) → slice_get (results_of_program p) j ≡ Some f → AreLoops f
 marks_loops p whole built j f e =
-    let body = f.known.read.body in
     let k = known_back p whole j f e in
     let m = module_there p.modules p.tables k.0 f.known k.1 in
     let b = got IsBuilt p.modules k.0 m.0 built m.1 in
-    let n = subst (λ (t : ModuleTree). AreNumbered 0 t.body) m.2 b.well.body in
-    let c = subst (λ (t : ModuleTree). AreCards (cards_in t.body)) m.2 (body_cards m.0.module_read (formed m.0 b)) in
+    let well = subst IsWell m.2 b.well in
     let outs = all_outs p.graph (all_ins p.graph (all_regions p.graph (analyses (known_of p.modules p.tables) p.graph))) in
-    let count = ap numbers (marks_are p.graph outs j f e) ∙ found_numbers p.graph.untracked (phases_of f) f.effects n c in
-    record { count = count; rise = subst (Rise 0 (last_in 0 body)) (sym count) (loops_rise body n) }
+    let count = ap numbers (marks_are p.graph outs j f e) ∙ found_numbers p.graph.untracked (phases_of f) f.effects well in
+    record { count = count; rise = subst (Rise 0 (last_in 0 (folded f.known.read).body)) (sym count) (loops_rise f.known.read well) }
 
 pub marks_count : (p : ProgramTree) → AreWhole (known_of p.modules p.tables) (analyses (known_of p.modules p.tables) p.graph) → Each IsBuilt p.modules → (j : ℕ) (f : ModuleResults) → slice_get (results_of_program p) j ≡ Some f
     → numbers f.marks ≡ loops_in f.known.read.body
 marks_count p whole built j f e = (marks_loops p whole built j f e).count
 
 pub marks_rise : (p : ProgramTree) → AreWhole (known_of p.modules p.tables) (analyses (known_of p.modules p.tables) p.graph) → Each IsBuilt p.modules → (j : ℕ) (f : ModuleResults) → slice_get (results_of_program p) j ≡ Some f
-    → Rise 0 (last_in 0 f.known.read.body) (numbers f.marks)
+    → Rise 0 (last_in 0 (folded f.known.read).body) (numbers f.marks)
 marks_rise p whole built j f e = (marks_loops p whole built j f e).rise
 
 -- of the directives of a program that was read
@@ -115,5 +111,5 @@ directive_marks p whole built x n xs e =
       f,
       in_at (results_of_program p) d.place f d.there,
       d.name,
-      (a.private, value_there f.marks a.place 0 (last_in 0 f.known.read.body) (record { id = n; value = Parallel a.private }) rise a.mark, a.named),
+      (a.private, value_there f.marks a.place 0 (last_in 0 (folded f.known.read).body) (record { id = n; value = Parallel a.private }) rise a.mark, a.named),
     )

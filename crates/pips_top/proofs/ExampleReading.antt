@@ -12,7 +12,7 @@ use Rattle.f77_exprs.specs.Grammar.{more, chain, more_by, items_by, element_at, 
 use Rattle.f77_statements.specs.Lists.{maybe_after_comma}
 use Rattle.f77_statements.specs.Parts.{entity, bounds}
 use Rattle.f77_statements.specs.Specifications.{integer_statement}
-use Rattle.f77_statements.specs.Executables.{assignment, print_statement}
+use Rattle.f77_statements.specs.Executables.{right_side, assignment, print_statement}
 use Rattle.f77_statements.specs.Statements.{program_statement, form_at, terminal, some_step, step, range, do_statement, alone, specified, simply, phrase_of}
 use Rattle.f77_structure.specs.Blocks.{parse_executable}
 use Rattle.f77_structure.specs.Opens.{can_spoil, contains}
@@ -21,7 +21,9 @@ use Rattle.f77_structure.specs.Steps.{parse_statement}
 use Rattle.f77_structure.specs.Checks.{fault_of}
 use Rattle.f77_parser.specs.Gives.{Refused, and_then}
 use Rattle.f77_parser.specs.SoFar.{add_spot, add_executable, add_logical_if, open_block}
-use Rattle.f77_parser.specs.Building.{build_module}
+use Rattle.f77_parser.specs.Building.{written_module, build_module}
+use Rattle.f77_parser.specs.Elaborated.{elaborated}
+use Rattle.f77_parser.specs.References.{empty_call_fault, reference_fault}
 use Rattle.f77_parser.specs.Modules.{parse_of}
 use Rattle.f77_ast.specs.Symbols.{SymbolTree}
 use Rattle.fx_lists.specs.declared.refusal.Refusal.{Refusal}
@@ -64,7 +66,7 @@ lines_are_read = refl
 -- ---- statements and structure
 
 modules_are_read : parse_of statements ≡ Ok (parsed ∷ [])
-unfolding name_at label_at number more chain more_by items_by element_at variable_in parenthesis constant_at primary exponent factor signed_terms signed_term arithmetic comparison relation negated_relation negation part expression variable maybe_after_comma entity bounds integer_statement assignment print_statement program_statement form_at terminal some_step step range do_statement alone specified simply phrase_of parse_executable can_spoil contains check_next parse_statement fault_of add_spot add_executable add_logical_if open_block build_module parse_of refuse_if is_before
+unfolding name_at label_at number more chain more_by items_by element_at variable_in parenthesis constant_at primary exponent factor signed_terms signed_term arithmetic comparison relation negated_relation negation part expression variable maybe_after_comma entity bounds integer_statement right_side assignment print_statement program_statement form_at terminal some_step step range do_statement alone specified simply phrase_of parse_executable can_spoil contains check_next parse_statement fault_of add_spot add_executable add_logical_if open_block written_module build_module elaborated empty_call_fault reference_fault parse_of refuse_if is_before
 modules_are_read = refl
 
 -- ---- the table of symbols

@@ -29,6 +29,7 @@ pub mod ReadAlike
 pub mod PrintedOver
 pub mod OverBase
 mod ExampleReading
+mod FunctionReading
 mod Runs
 mod Claiming
 mod Schedules

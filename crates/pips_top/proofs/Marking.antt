@@ -1,9 +1,7 @@
 -- The marks of the modules of a program that was read are as the law of whole texts asks.
 use Rattle.std.proofs.Common.{◌≡◌, ℕ, zero, suc, Bool, true, false, List, [], ◌∷◌, ◌++◌, Option, Some, None, refl, sym, ap, ◌∙◌, subst}
 use Rattle.std.specs.Prelude.{slice_get}
-use Rattle.f77_ast.specs.declared.places.Part.TheVariants as parts
 use Rattle.f77_ast.specs.DeclTrees.{ModuleTree, ParsedTree}
-use Rattle.f77_statements.specs.Phrases.{end_module}
 use Rattle.f77_printer.specs.declared.added.Added.{Added}
 use Rattle.f77_ast.specs.Symbols.{SymbolTree}
 use Rattle.f77_ast.specs.declared.variable.Unit.{Unit as BlockUnit}
@@ -23,10 +21,8 @@ use Rattle.pipsmake_base.specs.result_lines.MarkLines.{mark_lines_of}
 use Rattle.pipsmake_base.specs.loop_marker.Results.{ModuleResults}
 use Rattle.pipsmake_base.specs.loop_marker.Phases.{phases_of, analysis_in, known_in, marks_found}
 use Rattle.laws_programs.specs.roundtrip_programs.Statements.Formed.{Each}
-use Rattle.laws_programs.specs.roundtrip_programs.ModuleTexts.Cards.{card, title_cards, decl_cards, cards_in, statements_of}
-use Rattle.laws_programs.specs.roundtrip_programs.ModuleTexts.Numbered.{AreNumbered}
+use Rattle.laws_programs.specs.roundtrip_programs.ModuleTexts.Numbered.{IsWell}
 use Rattle.laws_programs.specs.roundtrip_programs.Lines.{IsShown, AreShown}
-use Rattle.laws_programs.proofs.RoundtripPrograms.Body.{AreCards, left_of, right_of}
 use Rattle.system_text.specs.Printed.{AreNames}
 use Rattle.laws_lines.specs.Marks.Marked.{loops_in}
 use Rattle.laws_lines.specs.Marks.Lines.{IsNumberedMark, AreNumberedMarks}
@@ -42,7 +38,6 @@ use Rattle.pips_top.specs.Shown.{results_of_program}
 use Rattle.pipsmake_base.specs.result_lines.declared.show.Show.{Show}
 use Rattle.pipsmake_base.specs.result_lines.declared.show.Show.TheVariants.{All, Bare, Why}
 use Rattle.pips_top.proofs.LinesFound.{claims_found}
-use Rattle.pips_top.proofs.BlockNames.{formed}
 use Rattle.pips_top.proofs.MarkNames.{MarkNamed, MarksNamed}
 use Rattle.pips_top.proofs.ClaimsPlain.{ArePlain, claims_plain}
 use Rattle.pips_top.proofs.Said.{marks_are}
@@ -91,16 +86,11 @@ others_plain Why (Some f) = tt
 
 -- ---- the marks of a module
 
-pub body_cards : (m : ModuleTree) → AreCards (statements_of m) → AreCards (cards_in m.body)
-unfolding statements_of
-body_cards m k =
-    right_of (title_cards m ++ decl_cards 0 m.decls) (cards_in m.body) (left_of (title_cards m ++ decl_cards 0 m.decls ++ cards_in m.body) (card parts.End None end_module ∷ []) k)
-
-pub found_numbers : (u : List BlockUnit) (f : ModuleOuts) (e : Results EffectSet) → AreNumbered 0 (known_in f).read.body → AreCards (cards_in (known_in f).read.body) → numbers (marks_found u f e) ≡ loops_in (known_in f).read.body
-found_numbers u f e n c =
+pub found_numbers : (u : List BlockUnit) (f : ModuleOuts) (e : Results EffectSet) → IsWell (known_in f).read → numbers (marks_found u f e) ≡ loops_in (known_in f).read.body
+found_numbers u f e w =
     let k = known_in f in
     let a = analysis_in f in
-    marks_numbers (mark_of (knowledge_of k.read k.symbols (symbol_names k.symbols) (scope_of u k) e.at a.found.own.at a.holds.at f.known.known.regions.at f.known.ins.at f.outs.at)) k.read.body n c
+    marks_numbers (mark_of (knowledge_of k.read k.symbols (symbol_names k.symbols) (scope_of u k) e.at a.found.own.at a.holds.at f.known.known.regions.at f.known.ins.at f.outs.at)) k.read w
 
 numbered_mark : (names : List (List ℕ)) (v : Mark) → MarkNamed IsShown names v → IsNumberedMark names v
 numbered_mark names (Parallel ns) h = h
@@ -143,7 +133,7 @@ module _ (p : ProgramTree) (show : Show) (whole : AreWhole (known_of p.modules p
       let is = got IsSaid (results_of_program p) own.place f said own.there in
       let read : m.module_read ≡ f.known.read = ap (λ (x : Known). x.read) (sym own.known) in
       let found = marks_are p.graph outs own.place f own.there in
-      let count = found_numbers p.graph.untracked (phases_of f) f.effects (subst (λ (t : ModuleTree). AreNumbered 0 t.body) read b.well.body) (subst (λ (t : ModuleTree). AreCards (cards_in t.body)) read (body_cards m.module_read (formed m b))) in
+      let count = found_numbers p.graph.untracked (phases_of f) f.effects (subst IsWell read b.well) in
       let here : IsGood show m.module_read (Some f) = record {
         named = subst HasNames (sym own.known) (every_at HasNames ks i this are k);
         shown = is.names;

@@ -1,6 +1,7 @@
 -- What reading gives is a program, as laws on runs ask.
 use Rattle.std.proofs.Common.{◌≡◌, ℕ, zero, suc, List, [], ◌∷◌, Some, Result, Ok, Err, arith, refl, sym, subst}
 use Rattle.std.specs.Prelude.{All as Every, slice_get}
+use Rattle.fixed_form.specs.declared.line.Line.{Line}
 use Rattle.fixed_form.specs.declared.line.Lines.{Lines}
 use Rattle.fixed_form.specs.Reading as lines
 use Rattle.f77_ast.specs.DeclTrees.{ParsedTree}
@@ -10,7 +11,9 @@ use Rattle.f77_ast.specs.Symbols.{SymbolTree}
 use Rattle.call_graph.specs.declared.graph.Graph.{Graph}
 use Rattle.call_graph.specs.declared.refusal.Fault.{Fault}
 use Rattle.call_graph.specs.Links.{link_of}
-use Rattle.laws_programs.specs.Programs.{IsProgram}
+use Rattle.laws_programs.specs.Programs.{AreLabelled, IsProgram}
+use Rattle.laws_programs.specs.roundtrip_programs.Statements.Formed.{Each}
+use Rattle.laws_programs.proofs.RoundtripPrograms.Texts.Sources.{IsSource, given}
 use Rattle.pips_top.specs.Program.{ProgramTree}
 use Rattle.pips_top.specs.Reading.{lines_or, graph_or, linked_by, program_of, reading}
 use Rattle.pipsmake_base.specs.session_texts.Sources.{tables_of}
@@ -54,15 +57,19 @@ parsed_from text p e = from_lines text (lines.reading text) p refl e
 
 -- ---- programs
 
-of_parts : (ls : Lines) (ms : List ParsedTree) (p : ProgramTree) → parse_of ls ≡ Ok ms → Linked ms (tables_of ms) p → IsProgram p.modules p.tables p.graph
-of_parts ls ms p parsed (same, tables, links) =
+labels_given : (ls : List Line) → Each IsSource ls → AreLabelled ls
+labels_given [] h = tt
+labels_given (l ∷ ls) h = record { first = h.first.label; others = labels_given ls h.others }
+
+of_parts : (ls : Lines) (ms : List ParsedTree) (p : ProgramTree) → AreLabelled ls.lines → parse_of ls ≡ Ok ms → Linked ms (tables_of ms) p → IsProgram p.modules p.tables p.graph
+of_parts ls ms p labelled parsed (same, tables, links) =
     let Q : List ParsedTree → Type 0 = λ ns. IsProgram ns p.tables p.graph in
-    subst Q (sym same) (record { lines = ls; parsed = parsed; tables = all_tables ms p.tables tables; links = links })
+    subst Q (sym same) (record { lines = ls; labelled = labelled; parsed = parsed; tables = all_tables ms p.tables tables; links = links })
 
 pub is_program : (text : List ℕ) (p : ProgramTree) → reading text ≡ Ok p → IsProgram p.modules p.tables p.graph
 is_program text p e =
     let f = parsed_from text p e in
-    of_parts f.0 f.1 p f.3 (linked_from f.1 p f.4)
+    of_parts f.0 f.1 p (labels_given f.0.lines (given text f.0 f.2).statements) f.3 (linked_from f.1 p f.4)
 
 pub each_at : {A : Type 0} (P : A → Type 0) (xs : List A) → Every P xs → (j : ℕ) (a : A) → slice_get xs j ≡ Some a → P a
 each_at P [] h j a e = cc

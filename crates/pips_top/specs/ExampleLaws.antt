@@ -14,9 +14,11 @@ use Rattle.affine_forms.specs.Conditions.{no_rows}
 use Rattle.in_out_regions.specs.transformer_algebra.Transformers.{identity_transformer}
 use Rattle.pipsmake_base.specs.module_phases.ScalarPhases.{Analysis}
 use Rattle.laws_analyses.specs.Claims.{AnalysesHold}
+use Rattle.laws_programs.specs.roundtrip_programs.Texts.Texts.{modules_text}
 use Rattle.pips_top.specs.Program.{ProgramTree}
 use Rattle.pips_top.specs.Reading.{reading}
 use Rattle.pips_top.specs.Small.{text, parsed, table, graph, trace, modules}
+use Rattle.pips_top.specs.SmallFunction as small
 
 abbrev pub program : ProgramTree
 program = record { modules = parsed ∷ []; tables = table ∷ []; graph = graph }
@@ -50,3 +52,8 @@ all_say (m ∷ ms) n = says m n ∷ all_say ms n
 -- K is 4 there: it does not hold of every run that K is 5
 abbrev pub WrongClaimFails : Type 0
 WrongClaimFails = InEveryRun modules graph (AnalysesHold graph (all_say modules (pos 5))) → ⊥
+
+-- the bytes with a function and a DO WHILE are read as that program, and it is written as these bytes, where nothing is added
+pub record FunctionIsReadSo : Type 0 where
+  pub read : reading small.text ≡ Ok small.program
+  pub written : modules_text (λ m. []) small.program.modules ≡ small.text

@@ -21,5 +21,6 @@ pub mod Answer
 pub mod Run
 pub mod Replies
 pub mod Small
+pub mod SmallFunction
 pub mod ExampleLaws
 pub mod Sample

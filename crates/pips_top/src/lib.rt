@@ -18,7 +18,7 @@ mod status;
 mod top;
 mod written;
 
-pub use example_laws::{text_runs_so, wrong_claim_fails};
+pub use example_laws::{function_is_read_so, text_runs_so, wrong_claim_fails};
 pub use sample::sample_program;
 pub use status::Status;
 pub use top::run;

@@ -5,6 +5,7 @@ use Rattle.std.specs.Fmt.{digits}
 use Rattle.fixed_form.specs.Faults.{first_fault}
 use Rattle.fixed_form.specs.Reading.{rest_from, reading}
 use Rattle.fixed_form.specs.Pieces.{pieces_of}
+use Rattle.f77_parser.specs.References.{empty_call_fault}
 use Rattle.f77_parser.specs.Modules.{parse_of}
 use Rattle.session_texts.specs.declared.command.Command.{Command}
 use Rattle.session_texts.specs.declared.command.Command.TheVariants as command
@@ -27,7 +28,7 @@ unfolding commands_of
 commands_are = refl
 
 nothing_is_read : source_modules [] ≡ Ok []
-unfolding source_modules reading rest_from first_fault parse_of pieces_of
+unfolding source_modules reading rest_from first_fault empty_call_fault parse_of pieces_of
 nothing_is_read = refl
 
 small_answers : (show : Show) → AnswersAll show first_state small_commands small_answer first_state

@@ -1,3 +1,4 @@
+pub mod Functions
 pub mod Uses
 pub mod Names
 pub mod Private

@@ -2,6 +2,7 @@
 #![tactic(auto)]
 
 mod answer;
+mod functions;
 mod names;
 mod uses;
 

@@ -1,7 +1,9 @@
--- The lines of a module on regions: before a DO or a CALL what it accesses, and before the first part of a subroutine what its callers see.
-use Rattle.std.specs.Prelude.{ℕ, Bool, true, false, List, [], ◌++◌, map, Option, Some, None, if◌then◌else◌, codes}
+-- The lines of a module on regions: before a DO, a DO WHILE, a CALL or an assignment of the value of a function what it accesses, and before the
+-- first part of a subroutine or function what its callers see. Hidden statements (f77_ast, specs/Hidden) have no lines.
+use Rattle.std.specs.Prelude.{ℕ, Bool, true, false, not, List, [], ◌++◌, map, Option, Some, None, if◌then◌else◌, codes}
 use Rattle.f77_ast.specs.Trees.{StmtTree, WhatTree, ArmTree, ArmTrees, ElseTree, LoopTree, StmtTrees}
 use Rattle.f77_ast.specs.Trees as tree
+use Rattle.f77_ast.specs.Hidden.{is_hidden}
 use Rattle.f77_printer.specs.declared.added.Added.{Added}
 use Rattle.f77_ast.specs.declared.results.At.{At}
 use Rattle.f77_ast.specs.declared.results.Results.{Results}
@@ -22,9 +24,13 @@ abbrev pub found_lines : List (List ℕ) → ℕ → Option (List Region) → Li
 found_lines names n None = []
 found_lines names n (Some rs) = set_lines names n rs
 
--- a statement's own lines: of a DO and of a CALL
+-- the lines of a statement of the text that may change something
+abbrev pub visible_lines : ℕ → WhatTree → List (List ℕ) → List (At (List Region)) → List Added
+visible_lines n w names sets = if says_changes w then found_lines names n (value_at sets n) else []
+
+-- a statement's own lines
 abbrev pub own_lines : ℕ → WhatTree → List (List ℕ) → List (At (List Region)) → List Added
-own_lines n w names sets = if says_changes w then found_lines names n (value_at sets n) else []
+own_lines n w names sets = if not (is_hidden n) then visible_lines n w names sets else []
 
 abbrev mutual
   -- in the order of the text; the statement of a logical IF has no line of its own

@@ -1,8 +1,10 @@
--- The lines of a module: before each statement what holds of the tracked cells there, and before a DO or a CALL also which of them it may change, and how.
-use Rattle.std.specs.Prelude.{ℕ, Bool, true, false, List, [], ◌∷◌, ◌++◌, Option, Some, None, if◌then◌else◌}
+-- The lines of a module: before each statement what holds of the analysed scalars there, and before a DO, a DO WHILE, a CALL or an assignment
+-- of the value of a function also which of them it may change, and how. Hidden statements (f77_ast, specs/Hidden) have no lines.
+use Rattle.std.specs.Prelude.{ℕ, Bool, true, false, not, List, [], ◌∷◌, ◌++◌, Option, Some, None, if◌then◌else◌}
 use Rattle.affine_systems.specs.declared.row.System.{System}
 use Rattle.f77_ast.specs.Trees.{StmtTree, WhatTree, ArmTree, ArmTrees, ElseTree, LoopTree, StmtTrees}
 use Rattle.f77_ast.specs.Trees as tree
+use Rattle.f77_ast.specs.Hidden.{is_hidden}
 use Rattle.f77_printer.specs.declared.added.Added.{Added}
 use Rattle.f77_ast.specs.declared.results.At.{At}
 use Rattle.f77_ast.specs.declared.results.Results.{Results}
@@ -33,10 +35,19 @@ abbrev pub does_lines : List (List ℕ) → ℕ → Option Transformer → List 
 does_lines names n None = []
 does_lines names n (Some t) = changes_lines names n t.cells t.system
 
--- DO and CALL
+-- the first statement of a list, and of the first arm of a block IF, is hidden
+abbrev pub begins_hidden : StmtTrees → Bool
+begins_hidden tree.no_stmts = false
+begins_hidden (tree.more_stmts (tree.stmt n label w) rest) = is_hidden n
+
+abbrev pub stands_for : ArmTrees → Bool
+stands_for tree.no_arms = false
+stands_for (tree.more_arms (tree.arm test body) rest) = begins_hidden body
+
+-- DO and CALL, and a block IF that stands for a DO WHILE or for an assignment of the value of a function
 abbrev pub says_changes : WhatTree → Bool
 says_changes (tree.assign a b) = false
-says_changes (tree.block_if arms other) = false
+says_changes (tree.block_if arms other) = stands_for arms
 says_changes (tree.logical_if e s) = false
 says_changes (tree.do_loop l) = true
 says_changes (tree.call x es) = true
@@ -47,9 +58,13 @@ says_changes (tree.stop text) = false
 says_changes (tree.print es) = false
 says_changes (tree.read es) = false
 
+-- the lines of a statement of the text
+abbrev pub visible_lines : ℕ → WhatTree → Said → List Added
+visible_lines n w k = holds_lines k.names n (k.holds n) ++ (if says_changes w then does_lines k.names n (k.does n) else [])
+
 -- a statement's own lines
 abbrev pub own_lines : ℕ → WhatTree → Said → List Added
-own_lines n w k = holds_lines k.names n (k.holds n) ++ (if says_changes w then does_lines k.names n (k.does n) else [])
+own_lines n w k = if not (is_hidden n) then visible_lines n w k else []
 
 abbrev mutual
   -- in the order of the text; the statement of a logical IF has no line of its own

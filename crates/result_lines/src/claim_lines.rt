@@ -33,9 +33,10 @@ fn put_entry(
     put_changes(alloc, names, 0, whole, out)
 }
 
-/// The comment lines that are added to a module, in the order of the text: of a subroutine what holds where it is entered and what its CALLs
-/// may change; of each statement what holds where it begins and, of a DO or CALL, what it may change. No line of changes where no analysed
-/// scalar may change; none for a statement without a result, or for that of a logical IF.
+/// The comment lines that are added to a module, in the order of the text: of a subroutine or function what holds where it is entered and what
+/// its CALLs may change; of each statement what holds where it begins and, of a DO, a DO WHILE, a CALL or an assignment of the value of a
+/// function, what it may change. No line of changes where no analysed scalar may change; none for a statement without a result, for that of a
+/// logical IF, or for a hidden one.
 pub fn scalar_lines(
     alloc: Global,
     view: &View<'_>,

@@ -115,8 +115,9 @@ fn put_entry(
     put_set(alloc, names, 0, summary.as_slice(), out)
 }
 
-/// The comment lines on regions that are added to a module, in the order of the text: of a subroutine, first those of its summary; then those
-/// of each DO and CALL. A statement without a set has none; the statement of a logical IF has none of its own.
+/// The comment lines on regions that are added to a module, in the order of the text: of a subroutine or function, first those of its summary;
+/// then those of each DO, DO WHILE, CALL and assignment of the value of a function. A statement without a set has none; the statement of a
+/// logical IF has none of its own, nor has a hidden one.
 pub fn region_lines(
     alloc: Global,
     view: &View<'_>,

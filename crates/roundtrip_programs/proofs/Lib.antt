@@ -15,8 +15,9 @@ mod Tables
 pub mod Graphs
 pub mod Shown
 pub mod Names
-pub mod Heads
+pub mod Assigned
 pub mod Named
+pub mod ElaboratedNames
 pub mod Body
 pub mod Listed
 mod Back

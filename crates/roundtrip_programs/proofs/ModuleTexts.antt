@@ -1,4 +1,5 @@
 pub mod Bare
+pub mod Each
 pub mod TreeLists
 pub mod TreeBack
 pub mod Again
@@ -8,9 +9,14 @@ pub mod ModulePages
 pub mod Calm
 pub mod Steady
 pub mod Counting
+pub mod FoldedLaws
+pub mod ElaboratedNumbers
 pub mod Counted
 pub mod Matched
 pub mod Well
+pub mod Openings
+pub mod Fitting
+pub mod Built
 pub mod Kept
 pub mod Alone
 pub mod Stepping

@@ -20,6 +20,7 @@ pub mod Compact
 pub mod Forms
 pub mod WhatForms
 pub mod ListsBack
+pub mod RightBack
 pub mod WhatBack
 pub mod StopFormed
 pub mod WhatFormed

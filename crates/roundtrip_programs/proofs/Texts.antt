@@ -8,4 +8,5 @@ pub mod RowsBack
 pub mod Standing
 pub mod SameText
 pub mod Faultless
+pub mod References
 pub mod Whole

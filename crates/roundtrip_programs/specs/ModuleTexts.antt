@@ -1,3 +1,4 @@
+pub mod Folded
 pub mod Cards
 pub mod Numbered
 pub mod Page

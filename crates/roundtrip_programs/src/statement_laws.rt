@@ -8,13 +8,15 @@ pub fn expressions_read_back()
     ensures { ExpressionsReadBack }
 {}
 
-/// The text of each statement that reading gave is read as that statement, but for the label that a DO is written without.
+/// The text of each statement that reading gave is read as that statement, but for the label that a DO or a DO WHILE is written
+/// without.
 #[tactic(auto, using(crate::proofs::Statements::Phrases::statements_read_back))]
 pub fn statements_read_back()
     ensures { StatementsReadBack }
 {}
 
-/// What the printer writes on the line of a DO, a block IF and a logical IF is the text of the phrase that begins it.
+/// What the printer writes on the line of a DO, a block IF and a logical IF is the text of the phrase that begins it; a block IF
+/// that stands for an assignment or a DO WHILE has the text of that.
 #[tactic(auto, using(crate::proofs::Statements::WrittenLines::lines_are_written))]
 pub fn lines_are_written()
     ensures { LinesAreWritten }

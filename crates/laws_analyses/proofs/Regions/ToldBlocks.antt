@@ -21,6 +21,8 @@ use Rattle.storage_layout.specs.Symbols.{alone, laid, symbols_of}
 use Rattle.storage_layout.specs.Table.{Layout, home_place, place_in, unless_dummy, unless_value, symbol_of, symbols_from}
 use Rattle.laws_programs.specs.roundtrip_programs.Statements.Formed.{Each}
 use Rattle.laws_programs.specs.roundtrip_programs.Statements.Declared.{IsBlock, IsCommon, IsDecl}
+use Rattle.f77_parser.specs.Elaborated.{meant_in}
+use Rattle.laws_programs.specs.roundtrip_programs.ModuleTexts.Folded.{folded}
 use Rattle.laws_programs.specs.roundtrip_programs.ModuleTexts.Cards.{card, title_cards, decl_cards, cards_in, statements_of}
 use Rattle.laws_programs.proofs.SymbolTables.Answers.{answered_by, names_in, layout_in}
 use Rattle.laws_analyses.proofs.Calls.TableLaws.{numbered_at}
@@ -97,8 +99,9 @@ decls_told t (d ∷ ds) n l k h = decls_told t ds (n + 1) (decl_put t d l) k.oth
 laid_told : (t : NameTable) (m : ModuleTree) → AreCards (statements_of m) → AllTold (laid t m.decls).names
 unfolding statements_of laid
 laid_told t m k =
-    let all = left_of (title_cards m ++ decl_cards 0 m.decls ++ cards_in m.body) (card parts.End None end_module ∷ []) k in
-    let heads = left_of (title_cards m ++ decl_cards 0 m.decls) (cards_in m.body) all in
+    let body = cards_in (meant_in m).is_while (folded m).body in
+    let all = left_of (title_cards m ++ decl_cards 0 m.decls ++ body) (card parts.End None end_module ∷ []) k in
+    let heads = left_of (title_cards m ++ decl_cards 0 m.decls) body all in
     decls_told t m.decls 0 (alone t) (right_of (title_cards m) (decl_cards 0 m.decls) heads) tt
 
 -- ---- symbols

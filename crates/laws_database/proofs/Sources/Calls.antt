@@ -1,176 +1,310 @@
--- The CALLs of a module that is built are statements of it, which have their lines.
-use Rattle.std.proofs.Common.{◌≡◌, ℕ, ◌+◌, ◌≤◌, true, List, [], ◌∷◌, ◌++◌, refl, ap, ◌∙◌, arith}
-use Rattle.std.specs.Prelude.{Option, None}
-use Rattle.f77_ast.specs.declared.places.Part.TheVariants as parts
+-- The CALLs of a module that is built are statements of the text, or belong to statements of the text, which have their lines.
+use Rattle.std.proofs.Common.{◌≡◌, ℕ, ◌+◌, ◌≤◌, inl, inr, Bool, true, false, List, [], ◌∷◌, ◌++◌, refl, sym, ap, ◌∙◌, subst, arith, if◌then◌else◌}
+use Rattle.std.specs.Prelude.{Option, Some, None, nat_eq}
+use Rattle.std.proofs.lemmas.Bool.Decides.{nat_tests}
+use Rattle.f77_ast.specs.declared.places.Spot.{Spot}
+use Rattle.f77_ast.specs.Hidden.{is_hidden, carried_by, or_carrier, the_carrier, carrier_in}
+use Rattle.f77_ast.specs.Shapes.{IsLeaf, walk_stmt, walk_what, walk_body, walk_arms, walk_else, walk_list}
+use Rattle.f77_ast.proofs.WalkLaws.{Induction, every_list, leaf_walk}
+use Rattle.f77_ast.specs.StatementNumbers.{stmt_numbers, part_numbers, list_numbers, arms_numbers, else_numbers, loop_numbers}
 use Rattle.f77_ast.specs.Trees.{ExprTree, StmtTree, stmt, WhatTree, assign, block_if, logical_if, do_loop, call, goto, continue, return, stop, print, read, arm, ArmTrees, no_arms, more_arms, ElseTree, no_else, otherwise, LoopTree, loop, StmtTrees, no_stmts, more_stmts}
 use Rattle.f77_ast.specs.DeclTrees.{ParsedTree}
 use Rattle.f77_ast.specs.PlainStmt.{stmts_of}
 use Rattle.f77_ast.specs.Symbols.{SymbolTree}
-use Rattle.f77_statements.specs.Phrases.{end_if, end_do, end_module}
 use Rattle.f77_structure.specs.Steps.{nothing_open}
 use Rattle.f77_parser.specs.Statements.{marks_of}
-use Rattle.f77_parser.specs.Building.{add_all, no_statements, build_module}
+use Rattle.f77_parser.specs.Building.{add_all, no_statements, written_module, build_module}
+use Rattle.f77_parser.specs.Elaborated.{Meant, meant_in, hidden_to, hidden_in, elaborated_in, elaborated}
 use Rattle.call_graph.specs.declared.calls.Called.{Called}
 use Rattle.call_graph.specs.Actuals.{actuals_of}
-use Rattle.call_graph.specs.Modules.{has_spot}
-use Rattle.call_graph.specs.Calls.{with_list, with_stmt, with_what, with_arms, with_else, with_loop, calls_of}
+use Rattle.call_graph.specs.Modules.{has_spot, carrier_or}
+use Rattle.call_graph.specs.Calls.{with_list, with_stmt, with_arms, with_else, calls_of}
 use Rattle.laws_programs.specs.roundtrip_programs.Statements.Formed.{Each}
-use Rattle.laws_programs.specs.roundtrip_programs.Statements.Phrased.{IsWhat}
-use Rattle.laws_programs.specs.roundtrip_programs.ModuleTexts.Cards.{Card, card, within, cards_of, cards_by, body_cards, block_cards, part_cards, else_cards, cards_in, title_cards, decl_cards, statements_of}
-use Rattle.laws_programs.specs.roundtrip_programs.ModuleTexts.Numbered.{last_of, last_by, last_body, last_arms, last_else, last_in, IsInner, IsNumbered, NumberedBelow, NumberedBody, NumberedBlock, NumberedArms, NumberedElse, AreNumbered}
-use Rattle.laws_programs.proofs.RoundtripPrograms.ModuleTexts.Kept.{Each-append, each-map}
+use Rattle.laws_programs.specs.roundtrip_programs.ModuleTexts.Numbered.{last_of, last_in, AreNumbered}
+use Rattle.laws_programs.proofs.RoundtripPrograms.ModuleTexts.Each.{Each-append}
 use Rattle.laws_programs.proofs.RoundtripPrograms.ModuleTexts.Steady.{no-fault}
 use Rattle.laws_programs.proofs.RoundtripPrograms.ModuleTexts.Counting.{start_of}
 use Rattle.laws_programs.proofs.RoundtripPrograms.ModuleTexts.Well.{all-go, all-closed, nothing-goes}
+use Rattle.laws_programs.proofs.RoundtripPrograms.ModuleTexts.Built.{written_well}
+use Rattle.laws_programs.proofs.RoundtripPrograms.ModuleTexts.FoldedLaws.{later-of, later-in}
+use Rattle.laws_programs.proofs.RoundtripPrograms.ModuleTexts.ElaboratedNumbers.{Rows, rows-up, list-rows}
 use Rattle.laws_programs.specs.roundtrip_programs.Texts.Texts.{IsReadAs}
-use Rattle.laws_programs.proofs.Sources.{OfBuilt, is_built, all_of}
+use Rattle.laws_programs.proofs.Sources.{OfBuilt, all_of}
 use Rattle.laws_database.proofs.Sources.Spots.{built-spotted}
-use Rattle.laws_programs.proofs.Ordered.{AllFormed, split}
+use Rattle.fx_lists.proofs.Numbers.{same_number}
 
--- ---- numbers go up
+-- ---- what a statement belongs to
 
-mutual
-  up-stmt : (n : ℕ) (s : StmtTree) → n + 1 ≤ last_of n s
-  up-stmt n (stmt id label w) = up-what (n + 1) w
+-- there is one
+abbrev IsThere : Option ℕ → Type 0
+IsThere None = ⊥
+IsThere (Some n) = Unit {0}
 
-  up-what : (n : ℕ) (w : WhatTree) → n ≤ last_by n w
-  up-what n (assign v e) = omega arith
-  up-what n (block_if arms other) = omega (arith, up-arms n arms, up-else (last_arms n arms) other)
-  up-what n (logical_if e s) = omega arith
-  up-what n (do_loop l) = up-body n l
-  up-what n (call c es) = omega arith
-  up-what n (goto l) = omega arith
-  up-what n continue = omega arith
-  up-what n return = omega arith
-  up-what n (stop t) = omega arith
-  up-what n (print es) = omega arith
-  up-what n (read es) = omega arith
+-- it is so, if there is one
+abbrev Maybe : (ℕ → Type 0) → Option ℕ → Type 0
+Maybe P None = Unit {0}
+Maybe P (Some n) = P n
 
-  up-body : (n : ℕ) (l : LoopTree) → n ≤ last_body n l
-  up-body n (loop index first last step body) = up-list n body
+own-there : (n : ℕ) (o : Option ℕ) → IsThere (if nat_eq n n then Some n else o)
+own-there n o = subst (λ b. IsThere (if b then Some n else o)) (sym (same_number n)) tt
 
-  up-arms : (n : ℕ) (arms : ArmTrees) → n ≤ last_arms n arms
-  up-arms n no_arms = omega arith
-  up-arms n (more_arms (arm test body) others) = omega (arith, up-list n body, up-arms (last_in n body) others)
+found-there : (n k : ℕ) (o : Option ℕ) → IsThere o → IsThere (if nat_eq n k then Some n else o)
+found-there n k o h = go (nat_eq n k)
+  where
+    go : (b : Bool) → IsThere (if b then Some n else o)
+    go true = tt
+    go false = h
 
-  up-else : (n : ℕ) (other : ElseTree) → n ≤ last_else n other
-  up-else n no_else = omega arith
-  up-else n (otherwise body) = up-list n body
+carried-there : (n : ℕ) (o : Option ℕ) → IsThere o → IsThere (carried_by n o)
+carried-there n None h = h
+carried-there n (Some j) h = tt
 
-  up-list : (n : ℕ) (body : StmtTrees) → n ≤ last_in n body
-  up-list n no_stmts = omega arith
-  up-list n (more_stmts s others) = omega (arith, up-stmt n s, up-list (last_of n s) others)
+first-there : (o p : Option ℕ) → IsThere o → IsThere (or_carrier o p)
+first-there None p h = absurd h
+first-there (Some j) p h = tt
 
--- ---- the CALLs have numbers of statements
+last-there : (o p : Option ℕ) → IsThere p → IsThere (or_carrier o p)
+last-there None p h = h
+last-there (Some j) p h = tt
 
-record InRange (count : ℕ) (c : Called) : Type 0 where
-  least : 1 ≤ c.at
-  most : c.at ≤ count
+-- ---- the CALLs are found by their numbers
 
-module _ (count : ℕ) (ss : List SymbolTree) where
-  abbrev AllIn : List Called → Type 0
-  AllIn cs = Each (InRange count) cs
+module _ (ss : List SymbolTree) (P : ℕ → Type 0) where
+  abbrev All : List Called → Type 0
+  All cs = Each (λ (c : Called). P c.at) cs
 
-  in-call : (id : ℕ) (c : Called) (cs : List Called) → c.at ≡ id → 1 ≤ id → id ≤ count → AllIn cs → AllIn (cs ++ c ∷ [])
-  in-call id c cs e l m a = Each-append (InRange count) cs (c ∷ []) a (record { first = record { least = omega (arith, e, l); most = omega (arith, e, m) }; others = tt })
+  -- of each number by which a statement is found
+  abbrev OfFound : (ℕ → Option ℕ) → Type 0
+  OfFound f = (k : ℕ) → IsThere (f k) → P k
 
-  -- the statement in a logical IF
-  in-inner : (id : ℕ) (w : WhatTree) (cs : List Called) → IsWhat w → 1 ≤ id → id ≤ count → AllIn cs → AllIn (with_what w id ss cs)
-  in-inner id (assign v e) cs h l m a = a
-  in-inner id (block_if arms other) cs h l m a = absurd h
-  in-inner id (logical_if e s) cs h l m a = absurd h
-  in-inner id (do_loop d) cs h l m a = absurd h
-  in-inner id (call c es) cs h l m a = in-call id (record { at = id; callee = c; actuals = actuals_of es ss }) cs refl l m a
-  in-inner id (goto t) cs h l m a = a
-  in-inner id continue cs h l m a = a
-  in-inner id return cs h l m a = a
-  in-inner id (stop t) cs h l m a = a
-  in-inner id (print es) cs h l m a = a
-  in-inner id (read es) cs h l m a = a
+  abbrev InStmt : StmtTree → Type 0
+  InStmt s = (cs : List Called) → OfFound (λ k. walk_stmt (the_carrier k) s) → All cs → All (with_stmt s ss cs)
 
-  in-if : (n id : ℕ) (label : Option ℕ) (e : ExprTree) (s : StmtTree) (cs : List Called) → IsInner n s → AllFormed (within id label e s ∷ []) → n + 1 ≤ count → AllIn cs → AllIn (with_stmt s ss cs)
-  in-if n id label e (stmt inner own w) cs h f m a = in-inner inner w cs f.first.1.inner (omega (arith, h.number)) (omega (arith, h.number, m)) a
+  abbrev InArms : ArmTrees → Type 0
+  InArms arms = (cs : List Called) → OfFound (λ k. walk_arms (the_carrier k) arms) → All cs → All (with_arms arms ss cs)
 
-  mutual
-    in-stmt : (n : ℕ) (s : StmtTree) (cs : List Called) → IsNumbered n s → AllFormed (cards_of s) → last_of n s ≤ count → AllIn cs → AllIn (with_stmt s ss cs)
-    in-stmt n (stmt id label w) cs h f m a = in-what n id label w cs h.number h.below f m a
+  abbrev InElse : ElseTree → Type 0
+  InElse other = (cs : List Called) → OfFound (λ k. walk_else (the_carrier k) other) → All cs → All (with_else other ss cs)
 
-    -- a statement that follows so many
-    in-what : (n id : ℕ) (label : Option ℕ) (w : WhatTree) (cs : List Called) → id ≡ n + 1 → NumberedBelow (n + 1) w → AllFormed (cards_by id label w) → last_by (n + 1) w ≤ count → AllIn cs
-        → AllIn (with_what w id ss cs)
-    in-what n id label (assign v e) cs i h f m a = a
-    in-what n id label (block_if arms other) cs i h f m a =
-        let b = in-block (n + 1) id label arms (else_cards id other ++ card (parts.Close id) None end_if ∷ []) cs h.parts f (omega (arith, up-else (last_arms (n + 1) arms) other, m)) a in
-        in-else (last_arms (n + 1) arms) id other (with_arms arms ss cs) h.last (split (else_cards id other) (card (parts.Close id) None end_if ∷ []) b.1).0 m b.0
-    in-what n id label (logical_if e s) cs i h f m a = in-if (n + 1) id label e s cs h f m a
-    in-what n id label (do_loop l) cs i h f m a = in-body (n + 1) id l cs h f.others m a
-    in-what n id label (call c es) cs i h f m a = in-call id (record { at = id; callee = c; actuals = actuals_of es ss }) cs refl (omega (arith, i)) (omega (arith, i, m)) a
-    in-what n id label (goto l) cs i h f m a = a
-    in-what n id label continue cs i h f m a = a
-    in-what n id label return cs i h f m a = a
-    in-what n id label (stop t) cs i h f m a = a
-    in-what n id label (print es) cs i h f m a = a
-    in-what n id label (read es) cs i h f m a = a
+  abbrev InList : StmtTrees → Type 0
+  InList list = (cs : List Called) → OfFound (λ k. walk_list (the_carrier k) list) → All cs → All (with_list list ss cs)
 
-    in-body : (n id : ℕ) (l : LoopTree) (cs : List Called) → NumberedBody n l → AllFormed (body_cards id l) → last_body n l ≤ count → AllIn cs → AllIn (with_loop l ss cs)
-    in-body n id (loop index first last step body) cs h f m a = in-list n body cs h (split (cards_in body) (card (parts.Close id) None end_do ∷ []) f).0 m a
+  in-leaf : (n : ℕ) (label : Option ℕ) (w : WhatTree) → IsLeaf w → InStmt (stmt n label w)
+  in-leaf n label (assign v e) l cs f a = a
+  in-leaf n label (block_if arms other) l cs f a = cc
+  in-leaf n label (logical_if e s) l cs f a = cc
+  in-leaf n label (do_loop d) l cs f a = cc
+  in-leaf n label (call c es) l cs f a = Each-append (λ (x : Called). P x.at) cs (record { at = n; callee = c; actuals = actuals_of es ss } ∷ []) a (record { first = f n (own-there n None); others = tt })
+  in-leaf n label (goto t) l cs f a = a
+  in-leaf n label continue l cs f a = a
+  in-leaf n label return l cs f a = a
+  in-leaf n label (stop t) l cs f a = a
+  in-leaf n label (print es) l cs f a = a
+  in-leaf n label (read es) l cs f a = a
 
-    in-block : (n id : ℕ) (label : Option ℕ) (arms : ArmTrees) (end : List Card) (cs : List Called) → NumberedBlock n arms → AllFormed (block_cards id label arms end) → last_arms n arms ≤ count → AllIn cs
-        → AllIn (with_arms arms ss cs) × AllFormed end
-    in-block n id label no_arms end cs h f m a = absurd h
-    in-block n id label (more_arms (arm test body) others) end cs h f m a =
-        let g = split (cards_in body) (part_cards id 1 others end) f.others in
-        in-arms (last_in n body) id 1 others end (with_list body ss cs) h.parts g.1 m
-        (in-list n body cs h.below g.0 (omega (arith, up-arms (last_in n body) others, m)) a)
+  steps : Induction InStmt InArms InElse InList
+  steps = record {
+    leaf = in-leaf;
+    inner = λ n label test s i cs f a.
+        i cs (λ k h. let o = walk_stmt (the_carrier k) s in f k (found-there n k (carried_by n o) (carried-there n o h))) a;
+    body = λ n label index first last step list i cs f a.
+        i cs (λ k h. let o = walk_list (the_carrier k) list in f k (found-there n k (carried_by n o) (carried-there n o h))) a;
+    arms = λ n label arms other i j cs f a.
+        j (with_arms arms ss cs)
+        (λ k h.
+        let o = walk_arms (the_carrier k) arms in
+        let p = walk_else (the_carrier k) other in
+        f k (found-there n k (carried_by n (or_carrier o p)) (carried-there n (or_carrier o p) (last-there o p h))))
+        (i cs
+        (λ k h.
+        let o = walk_arms (the_carrier k) arms in
+        let p = walk_else (the_carrier k) other in
+        f k (found-there n k (carried_by n (or_carrier o p)) (carried-there n (or_carrier o p) (first-there o p h))))
+        a);
+    no_arm = λ cs f a. a;
+    more_arms = λ test list rest i j cs f a.
+        j (with_list list ss cs) (λ k h. f k (last-there (walk_list (the_carrier k) list) (walk_arms (the_carrier k) rest) h))
+        (i cs (λ k h. f k (first-there (walk_list (the_carrier k) list) (walk_arms (the_carrier k) rest) h)) a);
+    no_else = λ cs f a. a;
+    below_else = λ list i cs f a. i cs f a;
+    no_statement = λ cs f a. a;
+    more_statements = λ s rest i j cs f a.
+        j (with_stmt s ss cs) (λ k h. f k (last-there (walk_stmt (the_carrier k) s) (walk_list (the_carrier k) rest) h))
+        (i cs (λ k h. f k (first-there (walk_stmt (the_carrier k) s) (walk_list (the_carrier k) rest) h)) a);
+  }
 
-    in-arms : (n id place : ℕ) (arms : ArmTrees) (end : List Card) (cs : List Called) → NumberedArms n arms → AllFormed (part_cards id place arms end) → last_arms n arms ≤ count → AllIn cs
-        → AllIn (with_arms arms ss cs) × AllFormed end
-    in-arms n id place no_arms end cs h f m a = (a, f)
-    in-arms n id place (more_arms (arm test body) others) end cs h f m a =
-        let g = split (cards_in body) (part_cards id (place + 1) others end) f.others in
-        in-arms (last_in n body) id (place + 1) others end (with_list body ss cs) h.parts g.1 m
-        (in-list n body cs h.below g.0 (omega (arith, up-arms (last_in n body) others, m)) a)
+  calls-found : (list : StmtTrees) → InList list
+  calls-found list = every_list InStmt InArms InElse InList steps list
 
-    in-else : (n id : ℕ) (other : ElseTree) (cs : List Called) → NumberedElse n other → AllFormed (else_cards id other) → last_else n other ≤ count → AllIn cs → AllIn (with_else other ss cs)
-    in-else n id no_else cs h f m a = a
-    in-else n id (otherwise body) cs h f m a = in-list n body cs h f.others m a
+-- ---- what is so of each number is so of the statement that one belongs to
 
-    in-list : (n : ℕ) (body : StmtTrees) (cs : List Called) → AreNumbered n body → AllFormed (cards_in body) → last_in n body ≤ count → AllIn cs → AllIn (with_list body ss cs)
-    in-list n no_stmts cs h f m a = a
-    in-list n (more_stmts s others) cs h f m a =
-        let g = split (cards_of s) (cards_in others) f in
-        in-list (last_of n s) others (with_stmt s ss cs) h.behind g.1 m
-        (in-stmt n s cs h.first g.0 (omega (arith, up-list (last_of n s) others, m)) a)
+module _ (P : ℕ → Type 0) (k : ℕ) where
+  parts : (xs ys : List ℕ) → Each P (xs ++ ys) → Each P xs × Each P ys
+  parts [] ys h = (tt, h)
+  parts (x ∷ xs) ys h = let r = parts xs ys h.others in (record { first = h.first; others = r.0 }, r.1)
+
+  found : (n : ℕ) (o : Option ℕ) → P n → Maybe P o → Maybe P (if nat_eq n k then Some n else o)
+  found n o h g = go (nat_eq n k)
+    where
+      go : (b : Bool) → Maybe P (if b then Some n else o)
+      go true = h
+      go false = g
+
+  carried : (n : ℕ) (o : Option ℕ) → P n → Maybe P o → Maybe P (carried_by n o)
+  carried n None h g = tt
+  carried n (Some j) h g = go (is_hidden j)
+    where
+      go : (b : Bool) → P (if b then n else j)
+      go true = h
+      go false = g
+
+  one-of : (o p : Option ℕ) → Maybe P o → Maybe P p → Maybe P (or_carrier o p)
+  one-of None p h g = g
+  one-of (Some j) p h g = h
+
+  abbrev OfStmt : StmtTree → Type 0
+  OfStmt s = Each P (stmt_numbers s) → Maybe P (walk_stmt (the_carrier k) s)
+
+  abbrev OfArms : ArmTrees → Type 0
+  OfArms arms = Each P (arms_numbers arms) → Maybe P (walk_arms (the_carrier k) arms)
+
+  abbrev OfElse : ElseTree → Type 0
+  OfElse other = Each P (else_numbers other) → Maybe P (walk_else (the_carrier k) other)
+
+  abbrev OfList : StmtTrees → Type 0
+  OfList list = Each P (list_numbers list) → Maybe P (walk_list (the_carrier k) list)
+
+  of-steps : Induction OfStmt OfArms OfElse OfList
+  of-steps = record {
+    leaf = λ n label w l h. subst (Maybe P) (sym (leaf_walk (the_carrier k) n label w l)) (found n None h.first tt);
+    inner = λ n label test s i h. let o = walk_stmt (the_carrier k) s in found n (carried_by n o) h.first (carried n o h.first (i h.others));
+    body = λ n label index first last step list i h. let o = walk_list (the_carrier k) list in found n (carried_by n o) h.first (carried n o h.first (i h.others));
+    arms = λ n label arms other i j h.
+        let r = parts (arms_numbers arms) (else_numbers other) h.others in
+        let o = walk_arms (the_carrier k) arms in
+        let p = walk_else (the_carrier k) other in
+        found n (carried_by n (or_carrier o p)) h.first (carried n (or_carrier o p) h.first (one-of o p (i r.0) (j r.1)));
+    no_arm = λ h. tt;
+    more_arms = λ test list rest i j h.
+        let r = parts (list_numbers list) (arms_numbers rest) h in one-of (walk_list (the_carrier k) list) (walk_arms (the_carrier k) rest) (i r.0) (j r.1);
+    no_else = λ h. tt;
+    below_else = λ list i h. i h;
+    no_statement = λ h. tt;
+    more_statements = λ s rest i j h.
+        let r = parts (stmt_numbers s) (list_numbers rest) h in one-of (walk_stmt (the_carrier k) s) (walk_list (the_carrier k) rest) (i r.0) (j r.1);
+  }
+
+  carrier-so : (list : StmtTrees) → OfList list
+  carrier-so list = every_list OfStmt OfArms OfElse OfList of-steps list
+
+-- ---- where each statement of a list is one of the text, so is the statement that one belongs to
+
+abbrev Shown : ℕ → Type 0
+Shown n = is_hidden n ≡ false
+
+abbrev AreShown : StmtTrees → Type 0
+AreShown no_stmts = Unit {0}
+AreShown (more_stmts (stmt n label w) others) = Shown n × AreShown others
+
+carried-shown : (n : ℕ) (o : Option ℕ) → Shown n → Maybe Shown (carried_by n o)
+carried-shown n None h = tt
+carried-shown n (Some j) h = go (is_hidden j) refl
+  where
+    go : (b : Bool) → is_hidden j ≡ b → is_hidden (if b then n else j) ≡ false
+    go true e = h
+    go false e = e
+
+what-shown : (k n : ℕ) (label : Option ℕ) (w : WhatTree) → Shown n → Maybe Shown (walk_what (the_carrier k) n label w)
+what-shown k n label (assign v e) h = found Shown k n None h tt
+what-shown k n label (block_if arms other) h =
+    let o = or_carrier (walk_arms (the_carrier k) arms) (walk_else (the_carrier k) other) in found Shown k n (carried_by n o) h (carried-shown n o h)
+what-shown k n label (logical_if e s) h = let o = walk_stmt (the_carrier k) s in found Shown k n (carried_by n o) h (carried-shown n o h)
+what-shown k n label (do_loop l) h = let o = walk_body (the_carrier k) l in found Shown k n (carried_by n o) h (carried-shown n o h)
+what-shown k n label (call c es) h = found Shown k n None h tt
+what-shown k n label (goto t) h = found Shown k n None h tt
+what-shown k n label continue h = found Shown k n None h tt
+what-shown k n label return h = found Shown k n None h tt
+what-shown k n label (stop t) h = found Shown k n None h tt
+what-shown k n label (print es) h = found Shown k n None h tt
+what-shown k n label (read es) h = found Shown k n None h tt
+
+carrier-shown : (k : ℕ) (list : StmtTrees) → AreShown list → Maybe Shown (carrier_in k list)
+carrier-shown k no_stmts h = tt
+carrier-shown k (more_stmts (stmt n label w) others) h =
+    one-of Shown k (walk_what (the_carrier k) n label w) (walk_list (the_carrier k) others) (what-shown k n label w h.0) (carrier-shown k others h.1)
+
+-- ---- elaborated statements
+
+few-shown : (id n m : ℕ) → id ≡ n + 1 → n + 1 ≤ m → m ≤ 4096 → Shown id
+few-shown id n m e up few = grind (arith, nat_tests)
+
+elaborated-shown : (m : Meant) (h n : ℕ) (list : StmtTrees) → AreNumbered n list → last_in n list ≤ 4096 → AreShown (elaborated_in m h list)
+elaborated-shown m h n no_stmts a few = tt
+elaborated-shown m h n (more_stmts (stmt id label w) others) a few =
+    let s = stmt id label w in
+    let x = later-of n s in
+    let y = later-in (last_of n s) others in
+    (few-shown id n (last_in (last_of n s) others) a.first.number (omega (arith, x, y)) few, elaborated-shown m (hidden_to m h s) (last_of n s) others a.behind few)
+
+-- one of the text is not above the last
+abbrev InText : ℕ → ℕ → Type 0
+InText last n = Shown n → (1 ≤ n) × (n ≤ last)
+
+no-text : (last x h : ℕ) → x ≡ 4097 + h → InText last x
+no-text last x h e v = let t : is_hidden x ≡ true = grind (arith, nat_tests) in let f : true ≡ false = sym t ∙ v in cc
+
+rows-in : (last n h k : ℕ) (xs : List ℕ) → Rows n h xs last k → Each (InText last) xs
+rows-in last n h k [] r = tt
+rows-in last n h k (x ∷ xs) (inl r) =
+    let e = r.0 in
+    let up = rows-up (n + 1) h last k xs r.1 in
+    record { first = λ v. (omega (arith, e), omega (arith, e, up)); others = rows-in last (n + 1) h k xs r.1 }
+rows-in last n h k (x ∷ xs) (inr r) = record { first = no-text last x h r.0; others = rows-in last n (h + 1) k xs r.1 }
 
 -- ---- modules
 
+-- the statement whose line is that of the statement with this number
+abbrev pub spot_number : ℕ → ParsedTree → ℕ
+spot_number n p = if has_spot n p.places.spots then n else carrier_or n (carrier_in n p.module_read.body)
+
+abbrev pub HasLine : ParsedTree → ℕ → Type 0
+HasLine p n = has_spot (spot_number n p) p.places.spots ≡ true
+
 -- the CALLs of a module have lines, whatever its symbols
-abbrev HasLine : ParsedTree → Called → Type 0
-HasLine p c = has_spot c.at p.places.spots ≡ true
-
 abbrev pub CallsHaveLines : ParsedTree → Type 0
-CallsHaveLines p = (ss : List SymbolTree) → Each (HasLine p) (calls_of p ss)
+CallsHaveLines p = (ss : List SymbolTree) → Each (λ (c : Called). HasLine p c.at) (calls_of p ss)
 
-body-held : (p : ParsedTree) → AllFormed (statements_of p.module_read) → AllFormed (cards_in p.module_read.body)
-unfolding statements_of
-body-held p h =
-    let m = p.module_read in
-    let whole = title_cards m ++ decl_cards 0 m.decls ++ cards_in m.body in
-    (split (title_cards m ++ decl_cards 0 m.decls) (cards_in m.body) (split whole (card parts.End None end_module ∷ []) h).0).1
+text-spotted : (qs : List Spot) (last : ℕ) → ((n : ℕ) → 1 ≤ n → n ≤ last → has_spot n qs ≡ true) → (o : Option ℕ) → Maybe (InText last) o → Maybe Shown o → Maybe (λ c. has_spot c qs ≡ true) o
+text-spotted qs last f None h g = tt
+text-spotted qs last f (Some c) h g = let r = h g in f c r.0 r.1
+
+line-there : (k : ℕ) (qs : List Spot) (o : Option ℕ) → IsThere o → Maybe (λ c. has_spot c qs ≡ true) o → has_spot (if has_spot k qs then k else carrier_or k o) qs ≡ true
+line-there k qs None h g = absurd h
+line-there k qs (Some c) h g = go (has_spot k qs) refl
+  where
+    go : (b : Bool) → has_spot k qs ≡ b → has_spot (if b then k else c) qs ≡ true
+    go true e = e
+    go false e = g
 
 built : OfBuilt CallsHaveLines
-unfolding build_module
+unfolding build_module written_module elaborated
 built closing begun s e i f ss =
     let all = begun ++ s ∷ [] in
     let none = (no-fault (marks_of all) f).2 in
     let g = all-go all 0 no_statements nothing_open i nothing-goes none in
     let p = add_all all no_statements in
-    let q = build_module closing all in
     let start : start_of p.around ≡ 0 = ap start_of (all-closed begun s 0 no_statements nothing_open e i nothing-goes none) in
     let counted : p.count ≡ last_in 0 (stmts_of p.list) = g.counts.count ∙ ap (λ n. last_in n (stmts_of p.list)) start in
-    let b = is_built closing begun s e i f in
-    each-map (InRange p.count) (HasLine q) (calls_of q ss) (λ c r. built-spotted all c.at r.least r.most)
-    (in-list p.count ss 0 (stmts_of p.list) [] b.well.body (body-held q b.formed) (omega (arith, counted)) tt)
+    let w = (written_module closing all).module_read in
+    let well = written_well closing begun s e i f in
+    let m = meant_in w in
+    let last = last_in 0 w.body in
+    let body = elaborated_in m 0 w.body in
+    let shown = elaborated-shown m 0 0 w.body well.body well.few in
+    let rows = rows-in last 0 0 (hidden_in m 0 w.body) (list_numbers body) (list-rows m 0 0 w.body well.body well.whiles) in
+    let spotted : (n : ℕ) → 1 ≤ n → n ≤ last → has_spot n p.spots ≡ true = λ n a b. built-spotted all n a (omega (arith, b, counted)) in
+    calls-found ss (HasLine (build_module closing all)) body []
+    (λ k h. line-there k p.spots (carrier_in k body) h (text-spotted p.spots last spotted (carrier_in k body) (carrier-so (InText last) k body rows) (carrier-shown k body shown))) tt
 
 pub calls_have_lines : (text : List ℕ) (m : ParsedTree) → IsReadAs text (m ∷ []) → CallsHaveLines m
 calls_have_lines text m r = (all_of CallsHaveLines built r.lines (m ∷ []) r.parsed).first

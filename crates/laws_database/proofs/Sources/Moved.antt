@@ -12,16 +12,16 @@ use Rattle.call_graph.specs.declared.graph.Graph.{Graph}
 use Rattle.call_graph.specs.declared.refusal.Fault.{Fault}
 use Rattle.call_graph.specs.declared.refusal.Fault.TheVariants as fault
 use Rattle.call_graph.specs.Faults.{or_fault, unless}
-use Rattle.call_graph.specs.Modules.{most_modules, names_of, statement_line, has_spot, carrier_or, call_line, too_many_at, too_many, is_place, twice_from, name_twice, second_main, main_twice, no_main}
+use Rattle.call_graph.specs.Modules.{most_modules, names_of, statement_line, carrier_or, call_line, too_many_at, too_many, is_place, twice_from, name_twice, second_main, main_twice, no_main}
 use Rattle.call_graph.specs.Calls.{calls_of, all_calls}
 use Rattle.call_graph.specs.Callees.{against_found, against_at, call_cause, or_later, first_in, unfit_at, unfit_from, all_places}
 use Rattle.call_graph.specs.Recursion.{reaches, is_back, cyclic_in, cyclic_at, cyclic_from}
 use Rattle.call_graph.specs.Links.{program_calls, callees_of, unfit, cyclic, graph_of, acyclic_of, joined_of, named_of, link_of}
 use Rattle.laws_programs.specs.roundtrip_programs.Statements.Formed.{Each}
-use Rattle.laws_programs.specs.roundtrip_programs.Pieces.Moved.{moved}
+use Rattle.laws_programs.specs.roundtrip_programs.Pieces.Moved.{moved_spot, moved}
 use Rattle.session_texts.specs.Sources.{refusal_for, source_refusal}
 use Rattle.laws_database.proofs.Sources.Spots.{line_moved, has_moved}
-use Rattle.laws_database.proofs.Sources.Calls.{CallsHaveLines}
+use Rattle.laws_database.proofs.Sources.Calls.{spot_number, HasLine, CallsHaveLines}
 
 -- each of the second modules is that of the first, its lines counted on by so many, which the place of the module says; the first has this place
 abbrev pub AreMoved : (ℕ → ℕ) → ℕ → List ParsedTree → List ParsedTree → Type 0
@@ -126,15 +126,10 @@ main-moved by k (p ∷ ps) [] h = absurd h
 main-moved by k (p ∷ ps) (q ∷ qs) h =
     main-by by p.module_read.main q.module_read.main (no_main ps) (no_main qs) (ap (λ x. x.module_read.main) (sym h.0)) (main-moved by (suc k) ps qs h.1)
 
--- the line of a statement that has one
-own-line : (n : ℕ) (p : ParsedTree) → has_spot n p.places.spots ≡ true → call_line n p ≡ statement_line n p.places.spots
-own-line n p h = ap (λ b. statement_line (if b then n else carrier_or n (carrier_in n p.module_read.body)) p.places.spots) h
-
-line-at : (by n : ℕ) (p q : ParsedTree) → q ≡ moved by p → has_spot n p.places.spots ≡ true → call_line n p + by ≡ call_line n q
+line-at : (by n : ℕ) (p q : ParsedTree) → q ≡ moved by p → HasLine p n → call_line n p + by ≡ call_line n q
 line-at by n p q e h =
-    ap (λ x. x + by) (own-line n p h)
-    ∙ sym (line_moved by n p.places.spots h)
-    ∙ sym (own-line n (moved by p) (has_moved by n p.places.spots ∙ h))
+    sym (line_moved by (spot_number n p) p.places.spots h)
+    ∙ ap (λ b. statement_line (if b then n else carrier_or n (carrier_in n p.module_read.body)) (map (moved_spot by) p.places.spots)) (sym (has_moved by n p.places.spots))
     ∙ ap (call_line n) (sym e)
 
 -- ---- CALLs that do not fit
@@ -174,7 +169,7 @@ first-is P (c ∷ cs) names all sss n cause h e = go (call_cause c names all sss
 abbrev Lined : List ParsedTree → List (List Called) → Type 0
 Lined [] css = Unit {0}
 Lined (p ∷ ps) [] = Unit {0}
-Lined (p ∷ ps) (cs ∷ css) = Each (AtOne (λ n. has_spot n p.places.spots ≡ true)) cs × Lined ps css
+Lined (p ∷ ps) (cs ∷ css) = Each (AtOne (HasLine p)) cs × Lined ps css
 
 unfit-moved : (by : ℕ → ℕ) (k : ℕ) (ps qs : List ParsedTree) (css : List (List Called)) (names : List (List ℕ)) (all others : List ParsedTree) (sss : List (List SymbolTree))
     → map bare all ≡ map bare others → AreMoved by k ps qs → Lined ps css → later by (unfit_from k ps css names all sss) ≡ unfit_from k qs css names others sss
@@ -191,7 +186,7 @@ unfit-moved by k (p ∷ ps) (q ∷ qs) (cs ∷ css) names all others sss e h l =
         → later by (unfit_at k p x (unfit_from (suc k) ps css names all sss)) ≡ unfit_at k q x (unfit_from (suc k) qs css names others sss)
     go None f ih = ih
     go (Some (n, cause)) f ih =
-        ap (λ line. Some (fault.At k line cause)) (line-at (by k) n p q h.0 (first-is (λ n. has_spot n p.places.spots ≡ true) cs names all sss n cause l.0 f))
+        ap (λ line. Some (fault.At k line cause)) (line-at (by k) n p q h.0 (first-is (HasLine p) cs names all sss n cause l.0 f))
 
 -- ---- CALLs on a cycle of calls
 
@@ -216,7 +211,7 @@ cyclic-moved by back k (p ∷ ps) (q ∷ qs) (cs ∷ css) names h l = go (cyclic
         → later by (cyclic_at k p x (cyclic_from back (suc k) ps css names)) ≡ cyclic_at k q x (cyclic_from back (suc k) qs css names)
     go None f ih = ih
     go (Some n) f ih =
-        ap (λ line. Some (fault.At k line Recursion)) (line-at (by k) n p q h.0 (cyclic-is (λ n. has_spot n p.places.spots ≡ true) (λ c. back c k) names cs n l.0 f))
+        ap (λ line. Some (fault.At k line Recursion)) (line-at (by k) n p q h.0 (cyclic-is (HasLine p) (λ c. back c k) names cs n l.0 f))
 
 -- ---- all of the links
 

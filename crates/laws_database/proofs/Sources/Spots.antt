@@ -6,9 +6,9 @@ use Rattle.std.proofs.lemmas.Bool.{or_left, or_right}
 use Rattle.f77_ast.specs.declared.places.Part.TheVariants as parts
 use Rattle.f77_ast.specs.declared.places.Spot.{Spot}
 use Rattle.f77_ast.specs.Trees.{ExprTree, WhatTree, continue}
-use Rattle.f77_statements.specs.Phrases.{PhraseTree, program, subroutine, specification, simple, logical_if, block_if, else_if, else_part, end_if, do_head, end_do, end_module}
+use Rattle.f77_statements.specs.Phrases.{PhraseTree, program, subroutine, function, specification, simple, logical_if, block_if, else_if, else_part, end_if, do_head, while_head, end_do, end_module}
 use Rattle.f77_parser.specs.Statements.{StatementTree}
-use Rattle.f77_parser.specs.SoFar.{OpeningTree, opening_loop, branches, AroundTree, SoFar, spot, add_spot, add_executable, add_logical_if, open_block, leave_block, is_loop_to, leave_loops, end_loops_at, close_innermost, close_block}
+use Rattle.f77_parser.specs.SoFar.{OpeningTree, opening_loop, opening_while, branches, AroundTree, SoFar, spot, add_spot, add_executable, add_logical_if, open_block, add_while, leave_block, is_loop_to, leave_loops, end_loops_at, close_innermost, close_block}
 use Rattle.f77_parser.specs.Building.{next_part, divide_innermost, add_continue, add_phrase, add_statement, add_all, no_statements}
 use Rattle.call_graph.specs.Modules.{is_statement, statement_line, has_spot}
 use Rattle.laws_programs.specs.roundtrip_programs.Pieces.Moved.{moved_spot}
@@ -92,6 +92,10 @@ entered-spotted : (f : ℕ) (label : Option ℕ) (cs : List (List ℕ)) (o : Ope
 unfolding open_block add_spot
 entered-spotted f label cs o p h = next p.count f cs p.spots h
 
+while-spotted : (p : SoFar) → Spotted p → Spotted (add_while p)
+unfolding add_while
+while-spotted p h = h
+
 divided-spotted : (os : List AroundTree) (f : ℕ) (cs : List (List ℕ)) (test : Option ExprTree) (p : SoFar) → Spotted p → Spotted (divide_innermost os f cs test p)
 unfolding add_spot
 divided-spotted [] f cs test p h = h
@@ -104,6 +108,7 @@ phrase-spotted : (f : ℕ) (label : Option ℕ) (cs : List (List ℕ)) (phrase :
 unfolding add_spot
 phrase-spotted f label cs (program n) p h = more p.count p.spots (spot parts.Title f cs ∷ []) h
 phrase-spotted f label cs (subroutine n ds) p h = more p.count p.spots (spot parts.Title f cs ∷ []) h
+phrase-spotted f label cs (function form n ds) p h = more p.count p.spots (spot parts.Title f cs ∷ []) h
 phrase-spotted f label cs (specification x) p h = more p.count p.spots (spot (parts.Decl (length p.decls)) f cs ∷ []) h
 phrase-spotted f label cs (simple w) p h = ended-spotted label (add_executable f label cs w p) (stated-spotted f label cs w p h)
 phrase-spotted f label cs (logical_if e w) p h = ended-spotted label (add_logical_if f label cs e w p) (conditioned-spotted f label cs e w p h)
@@ -113,6 +118,7 @@ phrase-spotted f label cs else_part p h = divided-spotted p.around f cs None p h
 phrase-spotted f None cs end_if p h = closed-spotted p.around f cs p h
 phrase-spotted f (Some l) cs end_if p h = continued-spotted f l [] (close_block f cs p) (closed-spotted p.around f cs p h)
 phrase-spotted f label cs (do_head x) p h = entered-spotted f label cs (opening_loop x) p h
+phrase-spotted f label cs (while_head l e) p h = entered-spotted f label cs (opening_while l e) (add_while p) (while-spotted p h)
 phrase-spotted f None cs end_do p h = closed-spotted p.around f cs p h
 phrase-spotted f (Some l) cs end_do p h =
     let q = add_continue f l cs p in closed-spotted q.around f [] q (continued-spotted f l cs p h)

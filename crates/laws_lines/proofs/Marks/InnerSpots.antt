@@ -10,14 +10,17 @@ use Rattle.f77_ast.specs.Trees as trees
 use Rattle.f77_ast.specs.DeclTrees.{DeclTree}
 use Rattle.f77_ast.specs.PlainStmt.{stmts_of, arms_of}
 use Rattle.f77_printer.specs.PageText.{is_part}
-use Rattle.f77_statements.specs.Phrases.{PhraseTree, program, subroutine, specification, simple, logical_if, block_if, else_if, else_part, end_if, do_head, end_do, end_module}
+use Rattle.f77_statements.specs.Phrases.{PhraseTree, program, subroutine, function, specification, simple, logical_if, block_if, else_if, else_part, end_if, do_head, while_head, end_do, end_module}
 use Rattle.f77_parser.specs.Statements.{StatementTree}
-use Rattle.f77_parser.specs.SoFar.{OpeningTree, opening_loop, branches, AroundTree, SoFar, spot, add_spot, add_executable, add_logical_if, open_block, what_of, leave_block, is_loop_to, leave_loops, end_loops_at, close_innermost, close_block}
-use Rattle.f77_parser.specs.Building.{close_arm, divide_innermost, add_continue, add_phrase, add_statement, add_all, no_statements, build_module}
+use Rattle.f77_parser.specs.SoFar.{OpeningTree, opening_loop, opening_while, branches, AroundTree, SoFar, spot, add_spot, add_executable, add_logical_if, open_block, add_while, what_of, leave_block, is_loop_to, leave_loops, end_loops_at, close_innermost, close_block}
+use Rattle.f77_parser.specs.Building.{close_arm, divide_innermost, add_continue, add_phrase, add_statement, add_all, no_statements, written_module, build_module}
+use Rattle.f77_parser.specs.Elaborated.{meant_in}
 use Rattle.laws_programs.specs.roundtrip_programs.Statements.Formed.{Each}
 use Rattle.laws_programs.specs.roundtrip_programs.Statements.Phrased.{IsWhat, IsPhrase}
-use Rattle.laws_programs.specs.roundtrip_programs.ModuleTexts.Cards.{Card, card, cards_of, cards_by, block_cards, part_cards, cards_in, title_cards, decl_cards, statements_of}
+use Rattle.laws_programs.specs.roundtrip_programs.ModuleTexts.Cards.{Card, card, cards_of, cards_by, if_end, block_cards, part_cards, cards_in, title_cards, decl_cards, written_cards, statements_of}
+use Rattle.laws_programs.specs.roundtrip_programs.ModuleTexts.Numbered.{IsAsWritten}
 use Rattle.laws_programs.proofs.RoundtripPrograms.ModuleTexts.Kept.{Each-append, each-map}
+use Rattle.laws_programs.proofs.RoundtripPrograms.ModuleTexts.FoldedLaws.{cards_back}
 
 -- ---- which spots a statement adds
 
@@ -118,10 +121,15 @@ continued_goes f l cs p =
     let q = add_executable f (Some l) cs continue p in
     chained p q (add_continue f l cs p) (stated_goes f (Some l) cs continue p) (at_goes (Some l) q)
 
+while_goes : (f : ℕ) (label : Option ℕ) (cs : List (List ℕ)) (o : OpeningTree) (p : SoFar) → Goes p (open_block f label cs o (add_while p))
+unfolding add_while
+while_goes f label cs o p = let g = entered_goes f label cs o (add_while p) in record { counts = g.counts; more = g.more; spots = g.spots; new = g.new }
+
 phrase_goes : (f : ℕ) (label : Option ℕ) (cs : List (List ℕ)) (phrase : PhraseTree) (p : SoFar) → Goes p (add_phrase f label cs phrase p)
 unfolding add_spot
 phrase_goes f label cs (program n) p = record { counts = omega arith; more = spot parts.Title f cs ∷ []; spots = refl; new = record { first = tt; others = tt } }
 phrase_goes f label cs (subroutine n ds) p = record { counts = omega arith; more = spot parts.Title f cs ∷ []; spots = refl; new = record { first = tt; others = tt } }
+phrase_goes f label cs (function form n ds) p = record { counts = omega arith; more = spot parts.Title f cs ∷ []; spots = refl; new = record { first = tt; others = tt } }
 phrase_goes f label cs (specification d) p = record { counts = omega arith; more = spot (parts.Decl _) f cs ∷ []; spots = refl; new = record { first = tt; others = tt } }
 phrase_goes f label cs (simple w) p = let q = add_executable f label cs w p in chained p q (end_loops_at label q) (stated_goes f label cs w p) (at_goes label q)
 phrase_goes f label cs (logical_if e w) p = let q = add_logical_if f label cs e w p in chained p q (end_loops_at label q) (conditioned_goes f label cs e w p) (at_goes label q)
@@ -131,6 +139,7 @@ phrase_goes f label cs else_part p = divided_goes p.around f cs None p
 phrase_goes f None cs end_if p = closed_goes p.around f cs p
 phrase_goes f (Some l) cs end_if p = let q = close_block f cs p in chained p q (add_continue f l [] q) (closed_goes p.around f cs p) (continued_goes f l [] q)
 phrase_goes f label cs (do_head d) p = entered_goes f label cs (opening_loop _) p
+phrase_goes f label cs (while_head l e) p = while_goes f label cs (opening_while l e) p
 phrase_goes f None cs end_do p = closed_goes p.around f cs p
 phrase_goes f (Some l) cs end_do p = let q = add_continue f l cs p in chained p q (close_block f [] q) (continued_goes f l cs p) (closed_goes q.around f [] q)
 phrase_goes f None cs end_module p = one_more parts.End f cs p tt
@@ -184,31 +193,42 @@ module _ (Q : Part → Type 0) where
   join : (xs ys : List Card) → AllInner xs → AllInner ys → AllInner (xs ++ ys)
   join xs ys h e = Each-append (λ (c : Card). InnerHolds c.inner) xs ys h e
 
-  abbrev ListHolds : List StmtTree → Type 0
-  ListHolds l = AllInner (cards_in (stmts_of l))
+  -- of a logical IF it is asked of the statement in it
+  abbrev Asked : PhraseTree → SoFar → Type 0
+  Asked (logical_if e w) p = Q (parts.Stmt (p.count + 1 + 1))
+  Asked _ p = Unit {0}
 
-  behind_these : (xs ys zs : List Card) → AllInner (xs ++ ys) → (AllInner ys → AllInner zs) → AllInner (xs ++ zs)
+  titles : (b : Bool) (c : Card) → InnerHolds c.inner → AllInner (if b then c ∷ [] else [])
+  titles true c h = record { first = h; others = tt }
+  titles false c h = tt
+
+module _ (Q : Part → Type 0) (told : ℕ → Bool) where
+  abbrev ListHolds : List StmtTree → Type 0
+  ListHolds l = AllInner Q (cards_in told (stmts_of l))
+
+  behind_these : (xs ys zs : List Card) → AllInner Q (xs ++ ys) → (AllInner Q ys → AllInner Q zs) → AllInner Q (xs ++ zs)
   behind_these [] ys zs h e = e h
   behind_these (c ∷ xs) ys zs h e = record { first = h.first; others = behind_these xs ys zs h.others e }
 
-  list_more : (l : List StmtTree) (s : StmtTree) → ListHolds l → AllInner (cards_of s) → ListHolds (l ++ s ∷ [])
-  list_more [] s h e = join (cards_of s) [] e tt
-  list_more (x ∷ l) s h e = behind_these (cards_of x) (cards_in (stmts_of l)) (cards_in (stmts_of (l ++ s ∷ []))) h (λ g. list_more l s g e)
+  list_more : (l : List StmtTree) (s : StmtTree) → ListHolds l → AllInner Q (cards_of told s) → ListHolds (l ++ s ∷ [])
+  list_more [] s h e = join Q (cards_of told s) [] e tt
+  list_more (x ∷ l) s h e = behind_these (cards_of told x) (cards_in told (stmts_of l)) (cards_in told (stmts_of (l ++ s ∷ []))) h (λ g. list_more l s g e)
 
   abbrev PartHolds : ArmTree → Type 0
-  PartHolds (arm test body) = AllInner (cards_in body)
+  PartHolds (arm test body) = AllInner Q (cards_in told body)
 
-  parts_hold : (id place : ℕ) (l : List ArmTree) (end : List Card) → Each PartHolds l → AllInner end → AllInner (part_cards id place (arms_of l) end)
+  parts_hold : (id place : ℕ) (l : List ArmTree) (end : List Card) → Each PartHolds l → AllInner Q end → AllInner Q (part_cards told id place (arms_of l) end)
   parts_hold id place [] end h e = e
   parts_hold id place (arm test body ∷ l) end h e =
-      record { first = tt; others = join (cards_in body) (part_cards id (place + 1) (arms_of l) end) h.first (parts_hold id (place + 1) l end h.others e) }
+      record { first = tt; others = join Q (cards_in told body) (part_cards told id (place + 1) (arms_of l) end) h.first (parts_hold id (place + 1) l end h.others e) }
 
-  block_holds : (id : ℕ) (label : Option ℕ) (l : List ArmTree) (end : List Card) → Each PartHolds l → AllInner end → AllInner (block_cards id label (arms_of l) end)
+  block_holds : (id : ℕ) (label : Option ℕ) (l : List ArmTree) (end : List Card) → Each PartHolds l → AllInner Q end → AllInner Q (block_cards told id label (arms_of l) end)
   block_holds id label [] end h e = tt
-  block_holds id label (arm test body ∷ l) end h e = record { first = tt; others = join (cards_in body) (part_cards id 1 (arms_of l) end) h.first (parts_hold id 1 l end h.others e) }
+  block_holds id label (arm test body ∷ l) end h e = record { first = tt; others = join Q (cards_in told body) (part_cards told id 1 (arms_of l) end) h.first (parts_hold id 1 l end h.others e) }
 
   abbrev OpeningHolds : OpeningTree → Type 0
   OpeningHolds (opening_loop d) = Unit {0}
+  OpeningHolds (opening_while l e) = Unit {0}
   OpeningHolds (branches arms test) = Each PartHolds arms
 
   abbrev AroundHolds : AroundTree → Type 0
@@ -216,17 +236,19 @@ module _ (Q : Part → Type 0) where
 
   closed_arms : (o : OpeningTree) (l : List StmtTree) → OpeningHolds o → ListHolds l → Each PartHolds (close_arm o l)
   closed_arms (opening_loop d) l h g = tt
+  closed_arms (opening_while k e) l h g = tt
   closed_arms (branches arms (Some test)) l h g = Each-append PartHolds arms (arm test (stmts_of l) ∷ []) h (record { first = g; others = tt })
   closed_arms (branches arms None) l h g = h
 
-  whole_holds : (id : ℕ) (label : Option ℕ) (o : OpeningTree) (l : List StmtTree) → OpeningHolds o → ListHolds l → AllInner (cards_of (stmt id label (what_of o l)))
-  whole_holds id label (opening_loop d) l o h = record { first = tt; others = join (cards_in (stmts_of l)) (card (parts.Close id) None end_do ∷ []) h (record { first = tt; others = tt }) }
+  whole_holds : (id : ℕ) (label : Option ℕ) (o : OpeningTree) (l : List StmtTree) → OpeningHolds o → ListHolds l → AllInner Q (cards_of told (stmt id label (what_of o l)))
+  whole_holds id label (opening_loop d) l o h = record { first = tt; others = join Q (cards_in told (stmts_of l)) (card (parts.Close id) None end_do ∷ []) h (record { first = tt; others = tt }) }
+  whole_holds id label (opening_while k e) l o h = record { first = tt; others = join Q (cards_in told (stmts_of l)) (card (parts.Close id) None (if_end (told id)) ∷ []) h (record { first = tt; others = tt }) }
   whole_holds id label (branches arms (Some test)) l o h =
-      block_holds id label (arms ++ arm test (stmts_of l) ∷ []) (card (parts.Close id) None end_if ∷ []) (Each-append PartHolds arms (arm test (stmts_of l) ∷ []) o (record { first = h; others = tt }))
+      block_holds id label (arms ++ arm test (stmts_of l) ∷ []) (card (parts.Close id) None (if_end (told id)) ∷ []) (Each-append PartHolds arms (arm test (stmts_of l) ∷ []) o (record { first = h; others = tt }))
       (record { first = tt; others = tt })
   whole_holds id label (branches arms None) l o h =
-      block_holds id label arms (card (parts.Else id) None else_part ∷ cards_in (stmts_of l) ++ card (parts.Close id) None end_if ∷ []) o
-      (record { first = tt; others = join (cards_in (stmts_of l)) (card (parts.Close id) None end_if ∷ []) h (record { first = tt; others = tt }) })
+      block_holds id label arms (card (parts.Else id) None else_part ∷ cards_in told (stmts_of l) ++ card (parts.Close id) None (if_end (told id)) ∷ []) o
+      (record { first = tt; others = join Q (cards_in told (stmts_of l)) (card (parts.Close id) None (if_end (told id)) ∷ []) h (record { first = tt; others = tt }) })
 
   record Holds (p : SoFar) : Type 0 where
     list : ListHolds p.list
@@ -253,7 +275,7 @@ module _ (Q : Part → Type 0) where
   closed_holds [] f cs p h g = g
   closed_holds (a ∷ os) f cs p h g = let x = left_holds a os p h.first h.others g in record { list = x.list; around = x.around }
 
-  simple_holds : (id : ℕ) (label : Option ℕ) (w : WhatTree) → IsWhat w → AllInner (cards_by id label w)
+  simple_holds : (id : ℕ) (label : Option ℕ) (w : WhatTree) → IsWhat w → AllInner Q (cards_by told id label w)
   simple_holds id label (assign v e) f = record { first = tt; others = tt }
   simple_holds id label (call c es) f = record { first = tt; others = tt }
   simple_holds id label (goto t) f = record { first = tt; others = tt }
@@ -279,6 +301,10 @@ module _ (Q : Part → Type 0) where
   unfolding open_block add_spot
   entered_holds f label cs o p h g = record { list = tt; around = record { first = (g.list, h); others = g.around } }
 
+  begun_holds : (p : SoFar) → Holds p → Holds (add_while p)
+  unfolding add_while
+  begun_holds p g = record { list = g.list; around = g.around }
+
   divided_holds : (os : List AroundTree) (f : ℕ) (cs : List (List ℕ)) (test : Option ExprTree) (p : SoFar) → Each AroundHolds os → Holds p → Holds (divide_innermost os f cs test p)
   unfolding add_spot
   divided_holds [] f cs test p h g = g
@@ -287,15 +313,11 @@ module _ (Q : Part → Type 0) where
   continued_holds : (f l : ℕ) (cs : List (List ℕ)) (p : SoFar) → Holds p → Holds (add_continue f l cs p)
   continued_holds f l cs p g = at_holds (Some l) (add_executable f (Some l) cs continue p) (stated_holds f (Some l) cs continue p tt g)
 
-  -- of a logical IF it is asked of the statement in it
-  abbrev Asked : PhraseTree → SoFar → Type 0
-  Asked (logical_if e w) p = Q (parts.Stmt (p.count + 1 + 1))
-  Asked _ p = Unit {0}
-
-  phrase_holds : (f : ℕ) (label : Option ℕ) (cs : List (List ℕ)) (phrase : PhraseTree) (p : SoFar) → IsPhrase phrase → Asked phrase p → Holds p → Holds (add_phrase f label cs phrase p)
+  phrase_holds : (f : ℕ) (label : Option ℕ) (cs : List (List ℕ)) (phrase : PhraseTree) (p : SoFar) → IsPhrase phrase → Asked Q phrase p → Holds p → Holds (add_phrase f label cs phrase p)
   unfolding add_spot
   phrase_holds f label cs (program n) p m h g = record { list = g.list; around = g.around }
   phrase_holds f label cs (subroutine n ds) p m h g = record { list = g.list; around = g.around }
+  phrase_holds f label cs (function form n ds) p m h g = record { list = g.list; around = g.around }
   phrase_holds f label cs (specification d) p m h g = record { list = g.list; around = g.around }
   phrase_holds f label cs (simple w) p m h g = at_holds label (add_executable f label cs w p) (stated_holds f label cs w p m g)
   phrase_holds f label cs (logical_if e w) p m h g = at_holds label (add_logical_if f label cs e w p) (conditioned_holds f label cs e w p h g)
@@ -305,14 +327,11 @@ module _ (Q : Part → Type 0) where
   phrase_holds f None cs end_if p m h g = closed_holds p.around f cs p g.around g
   phrase_holds f (Some l) cs end_if p m h g = continued_holds f l [] (close_block f cs p) (closed_holds p.around f cs p g.around g)
   phrase_holds f label cs (do_head d) p m h g = entered_holds f label cs (opening_loop d) p tt g
+  phrase_holds f label cs (while_head l e) p m h g = entered_holds f label cs (opening_while l e) (add_while p) tt (begun_holds p g)
   phrase_holds f None cs end_do p m h g = closed_holds p.around f cs p g.around g
   phrase_holds f (Some l) cs end_do p m h g = let q = add_continue f l cs p in let c = continued_holds f l cs p g in closed_holds q.around f [] q c.around c
   phrase_holds f None cs end_module p m h g = record { list = g.list; around = g.around }
   phrase_holds f (Some l) cs end_module p m h g = let c = continued_holds f l cs p g in record { list = c.list; around = c.around }
-
-  titles : (b : Bool) (c : Card) → InnerHolds c.inner → AllInner (if b then c ∷ [] else [])
-  titles true c h = record { first = h; others = tt }
-  titles false c h = tt
 
 -- what is asked of a statement, when all others are there
 asked_bare : (f : ℕ) (label : Option ℕ) (cs : List (List ℕ)) (phrase : PhraseTree) (p q : SoFar) → AreNew 0 p.count p.spots → Goes (add_phrase f label cs phrase p) q → Asked (Bare q.spots) phrase p
@@ -321,6 +340,7 @@ asked_bare f label cs (logical_if e w) p q old g =
     inner_bare f label cs e w p q old (chained r (end_loops_at label r) q (at_goes label r) g)
 asked_bare f label cs (program n) p q old g = tt
 asked_bare f label cs (subroutine n ds) p q old g = tt
+asked_bare f label cs (function form n ds) p q old g = tt
 asked_bare f label cs (specification d) p q old g = tt
 asked_bare f label cs (simple w) p q old g = tt
 asked_bare f label cs (block_if e) p q old g = tt
@@ -328,6 +348,7 @@ asked_bare f label cs (else_if e) p q old g = tt
 asked_bare f label cs else_part p q old g = tt
 asked_bare f label cs end_if p q old g = tt
 asked_bare f label cs (do_head d) p q old g = tt
+asked_bare f label cs (while_head l e) p q old g = tt
 asked_bare f label cs end_do p q old g = tt
 asked_bare f label cs end_module p q old g = tt
 
@@ -340,25 +361,35 @@ older p q g h =
 abbrev pub ArePhrases : List StatementTree → Type 0
 ArePhrases ss = Each (λ (s : StatementTree). IsPhrase s.phrase) ss
 
-all_hold : (ss : List StatementTree) (p q : SoFar) → q ≡ add_all ss p → ArePhrases ss → AreNew 0 p.count p.spots → Holds (Bare q.spots) p → Holds (Bare q.spots) (add_all ss p)
-all_hold [] p q e h old g = g
-all_hold (s ∷ ss) p q e h old g =
+all_hold : (told : ℕ → Bool) (ss : List StatementTree) (p q : SoFar) → q ≡ add_all ss p → ArePhrases ss → AreNew 0 p.count p.spots → Holds (Bare q.spots) told p
+    → Holds (Bare q.spots) told (add_all ss p)
+all_hold told [] p q e h old g = g
+all_hold told (s ∷ ss) p q e h old g =
     let r = add_statement s p in
     let go = phrase_goes s.first s.label s.comments s.phrase p in
     let asked = asked_bare s.first s.label s.comments s.phrase p q old (subst (Goes r) (sym e) (all_go ss r)) in
-    all_hold ss r q e h.others (older p r go old) (phrase_holds (Bare q.spots) s.first s.label s.comments s.phrase p h.first asked g)
+    all_hold told ss r q e h.others (older p r go old) (phrase_holds (Bare q.spots) told s.first s.label s.comments s.phrase p h.first asked g)
 
 bare_decls : (Q : Part → Type 0) (place : ℕ) (ds : List DeclTree) → AllInner Q (decl_cards place ds)
 bare_decls Q place [] = tt
 bare_decls Q place (d ∷ ds) = record { first = tt; others = bare_decls Q (place + 1) ds }
 
 -- no spot of the statement in a logical IF of a module has comments
-pub built_bare : (closing : List (List ℕ)) (ss : List StatementTree) → ArePhrases ss → AllInner (Bare (build_module closing ss).places.spots) (statements_of (build_module closing ss).module_read)
-unfolding build_module statements_of
-built_bare closing ss h =
+written_bare : (closing : List (List ℕ)) (ss : List StatementTree) → ArePhrases ss
+    → AllInner (Bare (written_module closing ss).places.spots) (written_cards (written_module closing ss).module_read)
+unfolding written_module written_cards
+written_bare closing ss h =
     let p = add_all ss no_statements in
     let Q = Bare p.spots in
-    let m = (build_module closing ss).module_read in
-    let g = all_hold ss no_statements p refl h tt (record { list = tt; around = tt }) in
-    let title = title_cards m in let decls = decl_cards 0 m.decls in let body = cards_in m.body in
+    let m = (written_module closing ss).module_read in
+    let told = (meant_in m).is_while in
+    let g = all_hold told ss no_statements p refl h tt (record { list = tt; around = tt }) in
+    let title = title_cards m in let decls = decl_cards 0 m.decls in let body = cards_in told m.body in
     join Q (title ++ decls ++ body) (card parts.End None end_module ∷ []) (join Q (title ++ decls) body (join Q title decls (titles Q _ _ tt) (bare_decls Q 0 m.decls)) g.list) (record { first = tt; others = tt })
+
+pub built_bare : (closing : List (List ℕ)) (ss : List StatementTree) → ArePhrases ss → IsAsWritten (written_module closing ss).module_read
+    → AllInner (Bare (build_module closing ss).places.spots) (statements_of (build_module closing ss).module_read)
+unfolding build_module
+built_bare closing ss h w =
+    let q = written_module closing ss in
+    subst (AllInner (Bare q.places.spots)) (sym (cards_back q.module_read w)) (written_bare closing ss h)

@@ -21,6 +21,8 @@ use Rattle.result_lines.specs.MarkLines.{mark_lines_of}
 use Rattle.laws_programs.specs.roundtrip_programs.Cards.Cards.{kept}
 use Rattle.laws_programs.specs.roundtrip_programs.Statements.Formed.{Each}
 use Rattle.f77_statements.specs.Phrases.{end_module}
+use Rattle.f77_parser.specs.Elaborated.{meant_in}
+use Rattle.laws_programs.specs.roundtrip_programs.ModuleTexts.Folded.{folded}
 use Rattle.laws_programs.specs.roundtrip_programs.ModuleTexts.Cards.{Card, card, title_of, title_cards, decl_cards, cards_in, statements_of}
 use Rattle.laws_programs.specs.roundtrip_programs.ModuleTexts.Numbered.{IsWell}
 use Rattle.laws_programs.proofs.RoundtripPrograms.ModuleTexts.Again.{built_again}
@@ -45,6 +47,7 @@ use Rattle.laws_lines.specs.Marks.WholeLaws.{IsMarked, with_marks, MarkedBack, M
 use Rattle.laws_lines.proofs.Marks.Found.{ArePlain, AreSentinels, LinesAre, AreRows, found, lines_are, rows_found, rows_join, found_append}
 use Rattle.laws_lines.proofs.Marks.Attach.{IsFrom, IsMarkable, AreMarkable, found_from, attach_rows}
 use Rattle.laws_lines.proofs.Marks.Loops.{HaveLoops, Ascend, body_have_loops, body_rises_on}
+use Rattle.laws_lines.proofs.Marks.MarkNumbers.{loops_written}
 use Rattle.laws_lines.proofs.Marks.Cases.{look, mark_at, mark_for, lines_for, added_append, AreOfStatements, marks_at_statement, marks_nowhere, numbers, StatementCase, CardCases, Result, above, above_zero, along}
 use Rattle.laws_lines.proofs.Marks.DirectiveBack.{directives_read_back}
 use Rattle.laws_lines.proofs.Marks.Passed.{AreOfDirective, directive_is}
@@ -194,22 +197,28 @@ decls_rise : (place : ℕ) (ds : List DeclTree) (rest : List Card) → Ascend 0 
 decls_rise place [] rest h = h
 decls_rise place (d ∷ ds) rest h = (tt, decls_rise (place + 1) ds rest h)
 
-parts_of : (m : ModuleTree) → statements_of m ≡ title_cards m ++ (decl_cards 0 m.decls ++ (cards_in m.body ++ card parts.End None end_module ∷ []))
+-- the executable ones as they are written
+abbrev body_of : ModuleTree → List Card
+body_of m = cards_in (meant_in m).is_while (folded m).body
+
+parts_of : (m : ModuleTree) → statements_of m ≡ title_cards m ++ (decl_cards 0 m.decls ++ (body_of m ++ card parts.End None end_module ∷ []))
 unfolding statements_of
 parts_of m =
-    append_assoc (title_cards m ++ decl_cards 0 m.decls) (cards_in m.body) (card parts.End None end_module ∷ [])
-    ∙ append_assoc (title_cards m) (decl_cards 0 m.decls) (cards_in m.body ++ card parts.End None end_module ∷ [])
+    append_assoc (title_cards m ++ decl_cards 0 m.decls) (body_of m) (card parts.End None end_module ∷ [])
+    ∙ append_assoc (title_cards m) (decl_cards 0 m.decls) (body_of m ++ card parts.End None end_module ∷ [])
 
 module_loops : (m : ModuleTree) → IsWell m → HaveLoops (statements_of m) (loops_in m.body)
 module_loops m w =
     subst (λ (cs : List Card). HaveLoops cs (loops_in m.body)) (sym (parts_of m))
     (title_loops (m.titled || not m.main) (card parts.Title None (title_of m)) _ (loops_in m.body)
-    (decls_loops 0 m.decls _ (loops_in m.body) (body_have_loops m.body (card parts.End None end_module ∷ []) w.body (inl refl))))
+    (decls_loops 0 m.decls _ (loops_in m.body)
+    (subst (HaveLoops (body_of m ++ card parts.End None end_module ∷ [])) (sym (loops_written m w))
+    (body_have_loops (meant_in m).is_while (folded m).body (card parts.End None end_module ∷ []) w.body (inl refl)))))
 
 module_rises : (m : ModuleTree) → IsWell m → Ascend 0 (statements_of m)
 module_rises m w =
     subst (Ascend 0) (sym (parts_of m))
-    (title_rises (m.titled || not m.main) m _ (decls_rise 0 m.decls _ (body_rises_on m.body (card parts.End None end_module ∷ []) w.body (tt, tt))))
+    (title_rises (m.titled || not m.main) m _ (decls_rise 0 m.decls _ (body_rises_on (meant_in m).is_while (folded m).body (card parts.End None end_module ∷ []) w.body (tt, tt))))
 
 -- ---- all modules
 

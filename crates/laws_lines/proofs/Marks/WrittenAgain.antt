@@ -20,10 +20,12 @@ use Rattle.laws_programs.specs.roundtrip_programs.Cards.Cards.{kept}
 use Rattle.laws_programs.specs.roundtrip_programs.Statements.Formed.{Each}
 use Rattle.laws_programs.specs.roundtrip_programs.Statements.Written.{phrase_text}
 use Rattle.laws_programs.proofs.RoundtripPrograms.Statements.Phrases.{statements_read_back}
-use Rattle.laws_programs.specs.roundtrip_programs.ModuleTexts.Cards.{Card, card, title_cards, decl_cards, cards_in, statements_of}
+use Rattle.laws_programs.specs.roundtrip_programs.ModuleTexts.Cards.{Card, statements_of}
 use Rattle.laws_programs.specs.roundtrip_programs.ModuleTexts.Page.{comments_at, spots_behind, inner_comments, inner_behind, added_at, behind, card_text, page_text}
 use Rattle.laws_programs.proofs.RoundtripPrograms.ModuleTexts.Again.{built_again}
-use Rattle.laws_programs.proofs.RoundtripPrograms.ModuleTexts.Kept.{each-map}
+use Rattle.laws_programs.proofs.RoundtripPrograms.ModuleTexts.Built.{written_well}
+use Rattle.laws_programs.proofs.RoundtripPrograms.Texts.Faultless.{all-formed}
+use Rattle.laws_programs.proofs.RoundtripPrograms.ModuleTexts.Each.{each-map}
 use Rattle.laws_programs.proofs.RoundtripPrograms.ModuleTexts.ModulePages.{written_by_cards}
 use Rattle.laws_programs.specs.roundtrip_programs.Texts.Texts.{IsPassedOver, text_of, modules_text}
 use Rattle.laws_programs.specs.roundtrip_programs.Texts.Laws.{AllPassedOver}
@@ -131,7 +133,8 @@ phrases ss h = each-map IsSourced (λ (s : StatementTree). _) ss (λ s k. statem
 module_calm : (p : ParsedTree) → IsParsed p → Calm p.places.spots (statements_of p.module_read)
 module_calm p h =
     let ss = h.begun ++ h.end ∷ [] in
-    subst (λ (q : ParsedTree). Calm q.places.spots (statements_of q.module_read)) (sym h.is) (built_bare h.closing ss (phrases ss h.sourced))
+    subst (λ (q : ParsedTree). Calm q.places.spots (statements_of q.module_read)) (sym h.is)
+    (built_bare h.closing ss (phrases ss h.sourced) (written_well h.closing h.begun h.end h.ends (all-formed ss h.sourced) h.faultless))
 
 -- what is added to a module depends on its statements alone
 abbrev IsOfTrees : (ParsedTree → List Added) → Type 0

@@ -1,9 +1,10 @@
 -- Each line that is added for sets of regions is read as a region of the set of its statement.
-use Rattle.std.proofs.Common.{◌≡◌, inl, inr, ℕ, Bool, true, false, List, [], ◌∷◌, ◌++◌, Option, Some, None, refl}
+use Rattle.std.proofs.Common.{◌≡◌, inl, inr, ℕ, Bool, true, false, not, List, [], ◌∷◌, ◌++◌, Option, Some, None, refl}
 use Rattle.std.specs.Prelude.{if◌then◌else◌}
 use Rattle.std.specs.List.{AllByRecursion}
 use Rattle.f77_ast.specs.Trees.{StmtTree, WhatTree, ArmTree, ArmTrees, ElseTree, LoopTree, StmtTrees}
 use Rattle.f77_ast.specs.Trees as tree
+use Rattle.f77_ast.specs.Hidden.{is_hidden}
 use Rattle.f77_printer.specs.declared.added.Added.{Added}
 use Rattle.f77_ast.specs.declared.results.Results.{Results}
 use Rattle.preconditions.specs.transformer_algebra.Laws.{In, here, there}
@@ -11,7 +12,7 @@ use Rattle.preconditions.specs.transformers.Lists.{value_at}
 use Rattle.result_lines.specs.ScalarLines.{says_changes}
 use Rattle.system_text.specs.Reading.{Bytes}
 use Rattle.in_out_regions.specs.region_sets.declared.region.Region.{Region}
-use Rattle.result_lines.specs.RegionLines.{set_lines, found_lines, own_lines, stmt_lines, part_lines, list_lines, arms_lines, arm_lines, else_lines, loop_lines, entry_lines, region_lines_of}
+use Rattle.result_lines.specs.RegionLines.{set_lines, found_lines, visible_lines, own_lines, stmt_lines, part_lines, list_lines, arms_lines, arm_lines, else_lines, loop_lines, entry_lines, region_lines_of}
 use Rattle.laws_lines.specs.RegionTexts.Printed.{AreOther, IsReadable}
 use Rattle.laws_lines.specs.RegionTexts.Added.{AreReadable, IsThere, MeansRegion, AddedLinesReadBack}
 use Rattle.laws_lines.proofs.RegionTexts.LineBack.{region_lines_read_back}
@@ -36,11 +37,18 @@ module _ (names : List Bytes) (sets : Results (List Region)) (are : AreOther nam
       go None e = tt
       go (Some rs) e = set_means n rs (ok.at n rs e) (λ r i. inl (rs, e, i))
 
-  own_means : (n : ℕ) (w : WhatTree) → Mean (own_lines n w names sets.at)
-  own_means n w = go (says_changes w)
+  visible_means : (n : ℕ) (w : WhatTree) → Mean (visible_lines n w names sets.at)
+  visible_means n w = go (says_changes w)
     where
       go : (b : Bool) → Mean (if b then found_lines names n (value_at sets.at n) else [])
       go true = found_means n
+      go false = tt
+
+  own_means : (n : ℕ) (w : WhatTree) → Mean (own_lines n w names sets.at)
+  own_means n w = go (not (is_hidden n))
+    where
+      go : (b : Bool) → Mean (if b then visible_lines n w names sets.at else [])
+      go true = visible_means n w
       go false = tt
 
   mutual

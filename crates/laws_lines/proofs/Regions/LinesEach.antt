@@ -1,20 +1,21 @@
 -- There is one line for each region that is shown.
-use Rattle.std.proofs.Common.{◌≡◌, ℕ, Bool, true, false, List, [], ◌∷◌, ◌++◌, Option, Some, None, append-nil, refl, sym, subst}
+use Rattle.std.proofs.Common.{◌≡◌, ℕ, Bool, true, false, not, if◌then◌else◌, List, [], ◌∷◌, ◌++◌, Option, Some, None, refl}
 use Rattle.std.specs.List.{AllByRecursion, AllZip}
-use Rattle.f77_ast.specs.Trees.{StmtTree, ArmTrees, ElseTree, LoopTree, StmtTrees}
+use Rattle.f77_ast.specs.Trees.{StmtTree, WhatTree, ArmTrees, ElseTree, LoopTree, StmtTrees}
 use Rattle.f77_ast.specs.Trees as tree
 use Rattle.f77_ast.specs.DeclTrees.{ModuleTree}
-use Rattle.f77_ast.specs.Shapes.{walk_stmt, walk_body, walk_arms, walk_else, walk_list}
+use Rattle.f77_ast.specs.Hidden.{is_hidden}
+use Rattle.result_lines.specs.ScalarLines.{says_changes}
 use Rattle.f77_printer.specs.declared.added.Added.{Added}
 use Rattle.f77_ast.specs.declared.results.At.{At}
 use Rattle.f77_ast.specs.declared.results.Results.{Results}
 use Rattle.preconditions.specs.transformers.Lists.{value_at}
 use Rattle.in_out_regions.specs.region_sets.declared.region.Region.{Region}
-use Rattle.result_lines.specs.RegionLines.{line_of, set_lines, found_lines, stmt_lines, list_lines, arms_lines, else_lines, loop_lines, entry_lines, region_lines_of}
+use Rattle.result_lines.specs.RegionLines.{line_of, set_lines, found_lines, visible_lines, own_lines, stmt_lines, part_lines, list_lines, arms_lines, else_lines, loop_lines, entry_lines, region_lines_of}
 use Rattle.system_text.specs.Reading.{Bytes}
 use Rattle.laws_lines.specs.RegionTexts.Reading.{read_region_line}
 use Rattle.laws_lines.specs.RegionTexts.Printed.{as_shown}
-use Rattle.laws_lines.specs.Regions.Lines.{regions_at, regions_found, the_shown, entry_regions, shown_regions, IsLineOf}
+use Rattle.laws_lines.specs.Regions.Lines.{regions_at, regions_found, visible_shown, own_shown, stmt_shown, part_shown, list_shown, arms_shown, else_shown, loop_shown, entry_regions, shown_regions, IsLineOf}
 
 -- the line of a region is read as that region, as it is shown
 abbrev pub IsTold : List Bytes → Region → Type 0
@@ -49,34 +50,50 @@ module _ (names : List Bytes) (sets : Results (List Region)) (told : AreTold nam
       go None e = tt
       go (Some rs) e = of_set n rs (told.at n rs e)
 
+  of_visible : (n : ℕ) (w : WhatTree) → Each (visible_lines n w names sets.at) (visible_shown n w sets.at)
+  of_visible n w = go (says_changes w)
+    where
+      go : (b : Bool) → Each (if b then found_lines names n (value_at sets.at n) else []) (if b then regions_found n (value_at sets.at n) else [])
+      go true = of_number n
+      go false = tt
+
+  of_own : (n : ℕ) (w : WhatTree) → Each (own_lines n w names sets.at) (own_shown n w sets.at)
+  of_own n w = go (not (is_hidden n))
+    where
+      go : (b : Bool) → Each (if b then visible_lines n w names sets.at else []) (if b then visible_shown n w sets.at else [])
+      go true = of_visible n w
+      go false = tt
+
   mutual
-    of_stmt : (s : StmtTree) → Each (stmt_lines s names sets.at) (walk_stmt (the_shown sets.at) s)
-    of_stmt (tree.stmt n label (tree.assign x e)) = tt
-    of_stmt (tree.stmt n label (tree.block_if arms other)) = both (arms_lines arms names sets.at) (else_lines other names sets.at) (walk_arms (the_shown sets.at) arms) (walk_else (the_shown sets.at) other) (of_arms arms) (of_else other)
-    of_stmt (tree.stmt n label (tree.logical_if e s)) = tt
-    of_stmt (tree.stmt n label (tree.do_loop l)) =
-        both (found_lines names n (value_at sets.at n)) (loop_lines l names sets.at) (regions_found n (value_at sets.at n)) (walk_body (the_shown sets.at) l) (of_number n) (of_loop l)
-    of_stmt (tree.stmt n label (tree.call x es)) = subst (λ xs. Each xs (regions_found n (value_at sets.at n))) (sym (append-nil (found_lines names n (value_at sets.at n)))) (of_number n)
-    of_stmt (tree.stmt n label (tree.goto l)) = tt
-    of_stmt (tree.stmt n label tree.continue) = tt
-    of_stmt (tree.stmt n label tree.return) = tt
-    of_stmt (tree.stmt n label (tree.stop text)) = tt
-    of_stmt (tree.stmt n label (tree.print es)) = tt
-    of_stmt (tree.stmt n label (tree.read es)) = tt
+    of_stmt : (s : StmtTree) → Each (stmt_lines s names sets.at) (stmt_shown s sets.at)
+    of_stmt (tree.stmt n label w) = both (own_lines n w names sets.at) (part_lines w names sets.at) (own_shown n w sets.at) (part_shown w sets.at) (of_own n w) (of_parts w)
 
-    of_list : (ss : StmtTrees) → Each (list_lines ss names sets.at) (walk_list (the_shown sets.at) ss)
+    of_parts : (w : WhatTree) → Each (part_lines w names sets.at) (part_shown w sets.at)
+    of_parts (tree.assign x e) = tt
+    of_parts (tree.block_if arms other) = both (arms_lines arms names sets.at) (else_lines other names sets.at) (arms_shown arms sets.at) (else_shown other sets.at) (of_arms arms) (of_else other)
+    of_parts (tree.logical_if e s) = tt
+    of_parts (tree.do_loop l) = of_loop l
+    of_parts (tree.call x es) = tt
+    of_parts (tree.goto l) = tt
+    of_parts tree.continue = tt
+    of_parts tree.return = tt
+    of_parts (tree.stop text) = tt
+    of_parts (tree.print es) = tt
+    of_parts (tree.read es) = tt
+
+    of_list : (ss : StmtTrees) → Each (list_lines ss names sets.at) (list_shown ss sets.at)
     of_list tree.no_stmts = tt
-    of_list (tree.more_stmts s rest) = both (stmt_lines s names sets.at) (list_lines rest names sets.at) (walk_stmt (the_shown sets.at) s) (walk_list (the_shown sets.at) rest) (of_stmt s) (of_list rest)
+    of_list (tree.more_stmts s rest) = both (stmt_lines s names sets.at) (list_lines rest names sets.at) (stmt_shown s sets.at) (list_shown rest sets.at) (of_stmt s) (of_list rest)
 
-    of_arms : (xs : ArmTrees) → Each (arms_lines xs names sets.at) (walk_arms (the_shown sets.at) xs)
+    of_arms : (xs : ArmTrees) → Each (arms_lines xs names sets.at) (arms_shown xs sets.at)
     of_arms tree.no_arms = tt
-    of_arms (tree.more_arms (tree.arm test body) rest) = both (list_lines body names sets.at) (arms_lines rest names sets.at) (walk_list (the_shown sets.at) body) (walk_arms (the_shown sets.at) rest) (of_list body) (of_arms rest)
+    of_arms (tree.more_arms (tree.arm test body) rest) = both (list_lines body names sets.at) (arms_lines rest names sets.at) (list_shown body sets.at) (arms_shown rest sets.at) (of_list body) (of_arms rest)
 
-    of_else : (x : ElseTree) → Each (else_lines x names sets.at) (walk_else (the_shown sets.at) x)
+    of_else : (x : ElseTree) → Each (else_lines x names sets.at) (else_shown x sets.at)
     of_else tree.no_else = tt
     of_else (tree.otherwise body) = of_list body
 
-    of_loop : (l : LoopTree) → Each (loop_lines l names sets.at) (walk_body (the_shown sets.at) l)
+    of_loop : (l : LoopTree) → Each (loop_lines l names sets.at) (loop_shown l sets.at)
     of_loop (tree.loop index first last step body) = of_list body
 
   of_entry : (main : Bool) → Each (entry_lines main names sets.summary) (entry_regions main sets.summary)
@@ -84,4 +101,4 @@ module _ (names : List Bytes) (sets : Results (List Region)) (told : AreTold nam
   of_entry false = of_set 0 sets.summary told.summary
 
   pub all_lines : (m : ModuleTree) → Each (region_lines_of m.main m.body names sets) (shown_regions m sets)
-  all_lines m = both (entry_lines m.main names sets.summary) (list_lines m.body names sets.at) (entry_regions m.main sets.summary) (walk_list (the_shown sets.at) m.body) (of_entry m.main) (of_list m.body)
+  all_lines m = both (entry_lines m.main names sets.summary) (list_lines m.body names sets.at) (entry_regions m.main sets.summary) (list_shown m.body sets.at) (of_entry m.main) (of_list m.body)

@@ -1,16 +1,17 @@
 -- The lines of the regions of a module are comment lines that reading drops.
-use Rattle.std.proofs.Common.{◌≡◌, ℕ, Bool, true, false, List, [], ◌∷◌, ◌++◌, Option, Some, None, refl}
+use Rattle.std.proofs.Common.{◌≡◌, ℕ, Bool, true, false, not, List, [], ◌∷◌, ◌++◌, Option, Some, None, refl}
 use Rattle.std.specs.Prelude.{if◌then◌else◌}
 use Rattle.std.specs.List.{AllByRecursion}
 use Rattle.f77_ast.specs.Trees.{StmtTree, WhatTree, ArmTree, ArmTrees, ElseTree, LoopTree, StmtTrees}
 use Rattle.f77_ast.specs.Trees as tree
+use Rattle.f77_ast.specs.Hidden.{is_hidden}
 use Rattle.f77_printer.specs.declared.added.Added.{Added}
 use Rattle.f77_ast.specs.declared.results.Results.{Results}
 use Rattle.preconditions.specs.transformers.Lists.{value_at}
 use Rattle.result_lines.specs.ScalarLines.{says_changes}
 use Rattle.system_text.specs.Reading.{Bytes}
 use Rattle.in_out_regions.specs.region_sets.declared.region.Region.{Region}
-use Rattle.result_lines.specs.RegionLines.{set_lines, found_lines, own_lines, stmt_lines, part_lines, list_lines, arms_lines, arm_lines, else_lines, loop_lines, entry_lines, region_lines_of}
+use Rattle.result_lines.specs.RegionLines.{set_lines, found_lines, visible_lines, own_lines, stmt_lines, part_lines, list_lines, arms_lines, arm_lines, else_lines, loop_lines, entry_lines, region_lines_of}
 use Rattle.f77_ast.specs.declared.variable.Unit.{Unit as BlockUnit}
 use Rattle.f77_ast.specs.declared.variable.Variable.{Variable}
 use Rattle.f77_ast.specs.declared.variable.Variable.TheVariants.{Own, Block, Saved}
@@ -56,11 +57,18 @@ module _ (law : RegionLinesArePassedOver) (names : List Bytes) (sets : Results (
       go None e = tt
       go (Some rs) e = set_passes n rs (shown.at n rs e)
 
-  own_passes : (n : ℕ) (w : WhatTree) → Pass (own_lines n w names sets.at)
-  own_passes n w = go (says_changes w)
+  visible_passes : (n : ℕ) (w : WhatTree) → Pass (visible_lines n w names sets.at)
+  visible_passes n w = go (says_changes w)
     where
       go : (b : Bool) → Pass (if b then found_lines names n (value_at sets.at n) else [])
       go true = found_passes n
+      go false = tt
+
+  own_passes : (n : ℕ) (w : WhatTree) → Pass (own_lines n w names sets.at)
+  own_passes n w = go (not (is_hidden n))
+    where
+      go : (b : Bool) → Pass (if b then visible_lines n w names sets.at else [])
+      go true = visible_passes n w
       go false = tt
 
   mutual

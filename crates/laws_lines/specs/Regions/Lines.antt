@@ -1,8 +1,10 @@
 -- What a line of a region is read as.
-use Rattle.std.specs.Prelude.{◌≡◌, ℕ, Bool, true, false, if◌then◌else◌, List, [], ◌++◌, map, Option, Some, None, bytes_eq}
+use Rattle.std.specs.Prelude.{◌≡◌, ℕ, Bool, true, false, not, if◌then◌else◌, List, [], ◌++◌, map, Option, Some, None, bytes_eq}
 use Rattle.std.specs.List.{AllByRecursion, AllZip, list_any}
 use Rattle.f77_ast.specs.DeclTrees.{ModuleTree}
-use Rattle.f77_ast.specs.Shapes.{Walk, walk_list}
+use Rattle.f77_ast.specs.Trees.{StmtTree, WhatTree, ArmTrees, ElseTree, LoopTree, StmtTrees}
+use Rattle.f77_ast.specs.Trees as tree
+use Rattle.f77_ast.specs.Hidden.{is_hidden}
 use Rattle.f77_printer.specs.declared.added.Added.{Added}
 use Rattle.f77_ast.specs.declared.results.At.{At}
 use Rattle.f77_ast.specs.declared.results.Results.{Results}
@@ -32,29 +34,55 @@ abbrev pub regions_found : ℕ → Option (List Region) → List (At Region)
 regions_found n None = []
 regions_found n (Some rs) = regions_at n rs
 
--- of a DO and of a CALL; the statement of a logical IF has no line of its own
-abbrev pub the_shown : List (At (List Region)) → Walk (List (At Region))
-the_shown sets = record {
-  of_leaf = λ n label w. if says_changes w then regions_found n (value_at sets n) else [];
-  of_inner = λ n label test s. [];
-  of_body = λ n label l body. regions_found n (value_at sets n) ++ body;
-  of_arms = λ n label arms other. arms ++ other;
-  of_arm = λ test body rest. body ++ rest;
-  of_no_arms = [];
-  of_else = λ body. body;
-  of_no_else = [];
-  of_more = λ s rest. s ++ rest;
-  of_end = [];
-}
+-- those of a statement of the text that may change something
+abbrev pub visible_shown : ℕ → WhatTree → List (At (List Region)) → List (At Region)
+visible_shown n w sets = if says_changes w then regions_found n (value_at sets n) else []
 
--- by the number 0 those that callers of a subroutine see
+-- of a statement itself; a hidden one has no line
+abbrev pub own_shown : ℕ → WhatTree → List (At (List Region)) → List (At Region)
+own_shown n w sets = if not (is_hidden n) then visible_shown n w sets else []
+
+abbrev mutual
+  -- of a statement and its parts; the statement of a logical IF has no line of its own
+  pub stmt_shown : StmtTree → List (At (List Region)) → List (At Region)
+  stmt_shown (tree.stmt n label w) sets = own_shown n w sets ++ part_shown w sets
+
+  pub part_shown : WhatTree → List (At (List Region)) → List (At Region)
+  part_shown (tree.assign a b) sets = []
+  part_shown (tree.block_if arms other) sets = arms_shown arms sets ++ else_shown other sets
+  part_shown (tree.logical_if e s) sets = []
+  part_shown (tree.do_loop l) sets = loop_shown l sets
+  part_shown (tree.call x es) sets = []
+  part_shown (tree.goto l) sets = []
+  part_shown tree.continue sets = []
+  part_shown tree.return sets = []
+  part_shown (tree.stop text) sets = []
+  part_shown (tree.print es) sets = []
+  part_shown (tree.read es) sets = []
+
+  pub list_shown : StmtTrees → List (At (List Region)) → List (At Region)
+  list_shown tree.no_stmts sets = []
+  list_shown (tree.more_stmts s rest) sets = stmt_shown s sets ++ list_shown rest sets
+
+  pub arms_shown : ArmTrees → List (At (List Region)) → List (At Region)
+  arms_shown tree.no_arms sets = []
+  arms_shown (tree.more_arms (tree.arm test body) rest) sets = list_shown body sets ++ arms_shown rest sets
+
+  pub else_shown : ElseTree → List (At (List Region)) → List (At Region)
+  else_shown tree.no_else sets = []
+  else_shown (tree.otherwise body) sets = list_shown body sets
+
+  pub loop_shown : LoopTree → List (At (List Region)) → List (At Region)
+  loop_shown (tree.loop index first last step body) sets = list_shown body sets
+
+-- by the number 0 those that callers of a subroutine or function see
 abbrev pub entry_regions : (main : Bool) → List Region → List (At Region)
 entry_regions true rs = []
 entry_regions false rs = regions_at 0 rs
 
 -- all, in the order of the text
 abbrev pub shown_regions : ModuleTree → Results (List Region) → List (At Region)
-shown_regions m sets = entry_regions m.main sets.summary ++ walk_list (the_shown sets.at) m.body
+shown_regions m sets = entry_regions m.main sets.summary ++ list_shown m.body sets.at
 
 -- ---- their lines
 

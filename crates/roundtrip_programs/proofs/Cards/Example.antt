@@ -3,7 +3,7 @@ use Rattle.std.proofs.Common.{◌≡◌, List, [], ◌∷◌, refl, arith, Some,
 use Rattle.std.specs.Prelude.{codes, Ok}
 use Rattle.fixed_form.specs.Reading.{reading}
 use Rattle.roundtrip_programs.specs.Cards.Cards.{Card, cards_text, lines_from}
-use Rattle.roundtrip_programs.specs.Cards.Good.{IsComment, IsText, AreCards}
+use Rattle.roundtrip_programs.specs.Cards.Good.{AreCards}
 use Rattle.roundtrip_programs.proofs.Cards.Whole.{lines_read_back}
 
 both : List Card

@@ -6,7 +6,6 @@ use Rattle.std.proofs.lemmas.Bool.{eqb-true, eqb-false, and_parts, and_from}
 use Rattle.f77_printer.specs.Layout.{label_field, over_lines, fitted, statement_lines}
 use Rattle.f77_printer.specs.PageText.{lines_text}
 use Rattle.fixed_form.specs.Characters.{is_allowed}
-use Rattle.roundtrip_programs.proofs.Texts.Rows.{lines-append as lines_text-append}
 
 -- ---- what stands on a line that has some characters already, and what stands on the lines behind it
 

@@ -1,22 +1,26 @@
 -- Of the statements of a module only the last is END.
 use Rattle.std.proofs.Common.{◌≡◌, ℕ, ◌+◌, Bool, true, false, List, [], ◌∷◌, ◌++◌, map, refl, sym, ap, ◌∙◌, append_assoc, append-nil}
-use Rattle.std.specs.Prelude.{Option, None, ◌||◌, not, if◌then◌else◌}
+use Rattle.std.specs.Prelude.{Option, Some, None, ◌||◌, not, if◌then◌else◌}
 use Rattle.f77_ast.specs.declared.places.Part.TheVariants as parts
 use Rattle.f77_ast.specs.Trees.{ExprTree, StmtTree, stmt, WhatTree, assign, do_loop, call, goto, continue, return, stop, print, read, arm, ArmTrees, no_arms, more_arms, ElseTree, no_else, otherwise, loop, StmtTrees, no_stmts, more_stmts}
 use Rattle.f77_ast.specs.Trees as trees
 use Rattle.f77_ast.specs.DeclTrees.{DeclTree, ModuleTree, ParsedTree}
-use Rattle.f77_statements.specs.Phrases.{program, subroutine, end_module, end_do, end_if}
+use Rattle.f77_ast.specs.declared.module.FunctionForm.{FunctionForm}
+use Rattle.f77_statements.specs.Phrases.{program, end_module, end_do}
 use Rattle.f77_parser.specs.Gives.{and_then}
 use Rattle.f77_parser.specs.Statements.{StatementTree}
 use Rattle.f77_parser.specs.Building.{build_module}
-use Rattle.f77_parser.specs.Modules.{ends_module, closing_at, unless_faulty, module_read, modules_from}
+use Rattle.f77_parser.specs.Modules.{closing_at, unless_faulty, module_read, modules_from}
+use Rattle.f77_parser.specs.Ends.{ends_module}
+use Rattle.f77_parser.specs.Elaborated.{meant_in}
 use Rattle.f77_parser.specs.Modules as modules
 use Rattle.f77_structure.specs.Lists.{is_none_of}
 use Rattle.roundtrip_programs.specs.Statements.Formed.{Each}
-use Rattle.roundtrip_programs.specs.ModuleTexts.Cards.{Card, card, cards_of, cards_by, part_cards, else_cards, cards_in, title_of, title_cards, decl_cards, statements_of}
+use Rattle.roundtrip_programs.specs.ModuleTexts.Cards.{Card, card, if_head, if_end, cards_of, cards_by, part_cards, else_cards, cards_in, head_phrase, title_of, title_cards, decl_cards, statements_of}
+use Rattle.roundtrip_programs.specs.ModuleTexts.Folded.{folded}
 use Rattle.roundtrip_programs.specs.ModuleTexts.ModuleLaws.{of_statement, of_card, ReadAlone, ReadNext}
 use Rattle.roundtrip_programs.proofs.ModuleTexts.Again.{built_again}
-use Rattle.roundtrip_programs.proofs.ModuleTexts.Kept.{Each-append}
+use Rattle.roundtrip_programs.proofs.ModuleTexts.Each.{Each-append}
 
 abbrev Inside : Card → Type 0
 Inside c = ends_module c.phrase ≡ false
@@ -30,55 +34,64 @@ join xs ys h e = Each-append Inside xs ys h e
 alone : (c : Card) → Inside c → AllInside (c ∷ [])
 alone c h = record { first = h; others = tt }
 
+head_inside : (c : Bool) (e : ExprTree) → ends_module (if_head c e) ≡ false
+head_inside true e = refl
+head_inside false e = refl
+
+close_inside : (c : Bool) → ends_module (if_end c) ≡ false
+close_inside true = refl
+close_inside false = refl
+
 mutual
-  stmt_inside : (s : StmtTree) → AllInside (cards_of s)
-  stmt_inside (stmt id label w) = what_inside id label w
+  stmt_inside : (f : ℕ → Bool) (s : StmtTree) → AllInside (cards_of f s)
+  stmt_inside f (stmt id label w) = what_inside f id label w
 
-  what_inside : (id : ℕ) (label : Option ℕ) (w : WhatTree) → AllInside (cards_by id label w)
-  what_inside id label (assign v e) = record { first = refl; others = tt }
-  what_inside id label (trees.block_if no_arms other) = tt
-  what_inside id label (trees.block_if (more_arms (arm test body) others) other) =
-      let end = else_cards id other ++ card (parts.Close id) None end_if ∷ [] in record {
-        first = refl;
-        others = join (cards_in body) (part_cards id 1 others end) (list_inside body) (parts_inside id 1 others end
-            (join (else_cards id other) (card (parts.Close id) None end_if ∷ []) (else_inside id other) (alone (card (parts.Close id) None end_if) refl)));
+  what_inside : (f : ℕ → Bool) (id : ℕ) (label : Option ℕ) (w : WhatTree) → AllInside (cards_by f id label w)
+  what_inside f id label (assign v e) = record { first = refl; others = tt }
+  what_inside f id label (trees.block_if no_arms other) = tt
+  what_inside f id label (trees.block_if (more_arms (arm test body) others) other) =
+      let end = else_cards f id other ++ card (parts.Close id) None (if_end (f id)) ∷ [] in record {
+        first = head_inside (f id) test;
+        others = join (cards_in f body) (part_cards f id 1 others end) (list_inside f body) (parts_inside f id 1 others end
+            (join (else_cards f id other) (card (parts.Close id) None (if_end (f id)) ∷ []) (else_inside f id other) (alone (card (parts.Close id) None (if_end (f id))) (close_inside (f id)))));
       }
-  what_inside id label (trees.logical_if e (stmt inner own w)) = record { first = refl; others = tt }
-  what_inside id label (do_loop (loop index first last step body)) = record {
+  what_inside f id label (trees.logical_if e (stmt inner own w)) = record { first = refl; others = tt }
+  what_inside f id label (do_loop (loop index first last step body)) = record {
     first = refl;
-    others = join (cards_in body) (card (parts.Close id) None end_do ∷ []) (list_inside body) (alone (card (parts.Close id) None end_do) refl);
+    others = join (cards_in f body) (card (parts.Close id) None end_do ∷ []) (list_inside f body) (alone (card (parts.Close id) None end_do) refl);
   }
-  what_inside id label (call c es) = record { first = refl; others = tt }
-  what_inside id label (goto t) = record { first = refl; others = tt }
-  what_inside id label continue = record { first = refl; others = tt }
-  what_inside id label return = record { first = refl; others = tt }
-  what_inside id label (stop t) = record { first = refl; others = tt }
-  what_inside id label (print es) = record { first = refl; others = tt }
-  what_inside id label (read es) = record { first = refl; others = tt }
+  what_inside f id label (call c es) = record { first = refl; others = tt }
+  what_inside f id label (goto t) = record { first = refl; others = tt }
+  what_inside f id label continue = record { first = refl; others = tt }
+  what_inside f id label return = record { first = refl; others = tt }
+  what_inside f id label (stop t) = record { first = refl; others = tt }
+  what_inside f id label (print es) = record { first = refl; others = tt }
+  what_inside f id label (read es) = record { first = refl; others = tt }
 
-  parts_inside : (id place : ℕ) (others : ArmTrees) (end : List Card) → AllInside end → AllInside (part_cards id place others end)
-  parts_inside id place no_arms end h = h
-  parts_inside id place (more_arms (arm t body) others) end h =
-      record { first = refl; others = join (cards_in body) (part_cards id (place + 1) others end) (list_inside body) (parts_inside id (place + 1) others end h) }
+  parts_inside : (f : ℕ → Bool) (id place : ℕ) (others : ArmTrees) (end : List Card) → AllInside end → AllInside (part_cards f id place others end)
+  parts_inside f id place no_arms end h = h
+  parts_inside f id place (more_arms (arm t body) others) end h =
+      record { first = refl; others = join (cards_in f body) (part_cards f id (place + 1) others end) (list_inside f body) (parts_inside f id (place + 1) others end h) }
 
-  else_inside : (id : ℕ) (other : ElseTree) → AllInside (else_cards id other)
-  else_inside id no_else = tt
-  else_inside id (otherwise body) = record { first = refl; others = list_inside body }
+  else_inside : (f : ℕ → Bool) (id : ℕ) (other : ElseTree) → AllInside (else_cards f id other)
+  else_inside f id no_else = tt
+  else_inside f id (otherwise body) = record { first = refl; others = list_inside f body }
 
-  list_inside : (body : StmtTrees) → AllInside (cards_in body)
-  list_inside no_stmts = tt
-  list_inside (more_stmts s others) = join (cards_of s) (cards_in others) (stmt_inside s) (list_inside others)
+  list_inside : (f : ℕ → Bool) (body : StmtTrees) → AllInside (cards_in f body)
+  list_inside f no_stmts = tt
+  list_inside f (more_stmts s others) = join (cards_of f s) (cards_in f others) (stmt_inside f s) (list_inside f others)
 
 decls_inside : (place : ℕ) (ds : List DeclTree) → AllInside (decl_cards place ds)
 decls_inside place [] = tt
 decls_inside place (d ∷ ds) = record { first = refl; others = decls_inside (place + 1) ds }
 
-title_by : (b : Bool) (n : List ℕ) (ds : List (List ℕ)) → ends_module (if b then program n else subroutine n ds) ≡ false
-title_by true n ds = refl
-title_by false n ds = refl
+title_by : (b : Bool) (function : Option FunctionForm) (n : List ℕ) (ds : List (List ℕ)) → ends_module (if b then program n else head_phrase function n ds) ≡ false
+title_by true function n ds = refl
+title_by false None n ds = refl
+title_by false (Some form) n ds = refl
 
 title_inside : (b : Bool) (m : ModuleTree) → AllInside (if b then card parts.Title None (title_of m) ∷ [] else [])
-title_inside true m = record { first = title_by m.main m.name m.dummies; others = tt }
+title_inside true m = record { first = title_by m.main m.function m.name m.dummies; others = tt }
 title_inside false m = tt
 
 -- ---- up to END
@@ -127,8 +140,8 @@ wholly (c ∷ cs) end closing done begun (s ∷ ss) more i e h =
 pub read_next : ReadNext
 unfolding statements_of
 read_next m closing done ss more written h =
-    let title = title_cards m in let decls = decl_cards 0 m.decls in let body = cards_in m.body in
-    let inside = join (title ++ decls) body (join title decls (title_inside (m.titled || not m.main) m) (decls_inside 0 m.decls)) (list_inside m.body) in
+    let title = title_cards m in let decls = decl_cards 0 m.decls in let f = (meant_in m).is_while in let body = cards_in f (folded m).body in
+    let inside = join (title ++ decls) body (join title decls (title_inside (m.titled || not m.main) m) (decls_inside 0 m.decls)) (list_inside f (folded m).body) in
     let own = closing_at (is_none_of more) closing in
     wholly (title ++ decls ++ body) (card parts.End None end_module) closing done [] ss more inside refl written
     ∙ ap (λ f. and_then (unless_faulty f (build_module own ss)) (λ p. modules_from closing (done ++ p ∷ []) [] more)) h

@@ -1,12 +1,13 @@
 -- What statements make of a module, their lines and comments aside.
-use Rattle.std.proofs.Common.{◌≡◌, ℕ, Bool, true, false, List, [], ◌∷◌, ◌++◌, map, refl, sym, ap, ◌∙◌}
+use Rattle.std.proofs.Common.{◌≡◌, ℕ, Bool, true, false, List, [], ◌∷◌, ◌++◌, map, refl, sym, ap, ◌∙◌, append_assoc, append-nil}
 use Rattle.std.specs.Prelude.{Option, Some, None, if◌then◌else◌}
 use Rattle.f77_ast.specs.Trees.{ExprTree, continue}
-use Rattle.f77_statements.specs.Phrases.{PhraseTree, program, subroutine, specification, simple, logical_if, block_if, else_if, else_part, end_if, do_head, end_do, end_module}
+use Rattle.f77_statements.specs.Phrases.{PhraseTree, program, subroutine, function, specification, simple, logical_if, block_if, else_if, else_part, end_if, do_head, while_head, end_do, end_module}
 use Rattle.f77_parser.specs.Statements.{StatementTree}
-use Rattle.f77_parser.specs.SoFar.{SoFar, AroundTree, add_spot, add_executable, add_logical_if, open_block, is_loop_to, leave_block, leave_loops, end_loops, close_innermost, close_block}
+use Rattle.f77_parser.specs.SoFar.{SoFar, AroundTree, add_spot, add_executable, add_logical_if, open_block, add_while, is_loop_to, leave_block, leave_loops, end_loops, close_innermost, close_block}
 use Rattle.f77_parser.specs.Building.{divide_innermost, add_continue, add_phrase, add_statement, add_all}
-use Rattle.roundtrip_programs.specs.ModuleTexts.Cards.{Card}
+use Rattle.f77_ast.specs.declared.places.Part.TheVariants as parts
+use Rattle.roundtrip_programs.specs.ModuleTexts.Cards.{Card, card, while_number, while_numbers}
 use Rattle.roundtrip_programs.specs.ModuleTexts.ModuleLaws.{Labelled, of_statement, of_card}
 
 -- without the spots
@@ -68,9 +69,10 @@ continued-same f g l cs ds p q h =
 
 pub with_phrase-bare : (f : ℕ) (label : Option ℕ) (cs : List (List ℕ)) (phrase : PhraseTree) (p : SoFar)
     → bare (add_phrase f label cs phrase p) ≡ bare (add_phrase 0 label [] phrase (bare p))
-unfolding add_spot add_executable add_logical_if open_block
+unfolding add_spot add_executable add_logical_if open_block add_while
 with_phrase-bare f label cs (program n) p = refl
 with_phrase-bare f label cs (subroutine n ds) p = refl
+with_phrase-bare f label cs (function form n ds) p = refl
 with_phrase-bare f label cs (specification d) p = refl
 with_phrase-bare f None cs (simple w) p = refl
 with_phrase-bare f (Some l) cs (simple w) p = ending-same l (add_executable f (Some l) cs w p) (add_executable 0 (Some l) [] w (bare p)) refl
@@ -83,6 +85,7 @@ with_phrase-bare f None cs end_if p = closed-same f 0 cs [] p (bare p) refl
 with_phrase-bare f (Some l) cs end_if p =
     continued-same f 0 l [] [] (close_block f cs p) (close_block 0 [] (bare p)) (closed-same f 0 cs [] p (bare p) refl)
 with_phrase-bare f label cs (do_head d) p = refl
+with_phrase-bare f label cs (while_head l e) p = refl
 with_phrase-bare f None cs end_do p = closed-same f 0 cs [] p (bare p) refl
 with_phrase-bare f (Some l) cs end_do p =
     closed-same f 0 [] [] (add_continue f l cs p) (add_continue 0 l [] (bare p)) (continued-same f 0 l cs [] p (bare p) refl)
@@ -103,3 +106,17 @@ all_made-turned (c ∷ cs) p = all_made-turned cs (turned (of_card c) p)
 pub all_made-append : (xs ys : List Card) (p : SoFar) → all_made (xs ++ ys) p ≡ all_made ys (all_made xs p)
 all_made-append [] ys p = refl
 all_made-append (x ∷ xs) ys p = all_made-append xs ys (turned (of_card x) p)
+
+-- ---- the numbers of DO WHILEs
+
+pub numbers-append : (xs ys : List Card) → while_numbers (xs ++ ys) ≡ while_numbers xs ++ while_numbers ys
+numbers-append [] ys = refl
+numbers-append (c ∷ xs) ys =
+    ap (λ l. while_number c.part c.phrase ++ l) (numbers-append xs ys) ∙ sym (append_assoc (while_number c.part c.phrase) (while_numbers xs) (while_numbers ys))
+
+pub numbers-behind : (ws : List ℕ) (xs ys : List Card) → ws ++ while_numbers xs ++ while_numbers ys ≡ ws ++ while_numbers (xs ++ ys)
+numbers-behind ws xs ys = append_assoc ws (while_numbers xs) (while_numbers ys) ∙ ap (λ l. ws ++ l) (sym (numbers-append xs ys))
+
+-- the last line of a block has none
+pub numbers-closed : (ws : List ℕ) (xs : List Card) (id : ℕ) (phrase : PhraseTree) → ws ++ while_numbers xs ≡ ws ++ while_numbers (xs ++ card (parts.Close id) None phrase ∷ [])
+numbers-closed ws xs id phrase = sym (append-nil (ws ++ while_numbers xs)) ∙ numbers-behind ws xs (card (parts.Close id) None phrase ∷ [])

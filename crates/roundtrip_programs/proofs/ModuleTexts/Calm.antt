@@ -18,7 +18,7 @@ use Rattle.f77_structure.specs.declared.blocks.Jump.{Jump}
 use Rattle.fx_lists.specs.Refusals.{refuse_if}
 use Rattle.f77_structure.specs.Lists.{first_of}
 use Rattle.f77_structure.specs.Opens.{is_if, fits, within_if}
-use Rattle.f77_structure.specs.Blocks.{left_one, left_from, leave_innermost, refuse_unclosed, down_to, push_block, enter_block, stray, add_landing, keep_jump}
+use Rattle.f77_structure.specs.Blocks.{left_one, leave_innermost, refuse_unclosed, down_to, push_block, enter_block, stray, add_landing, keep_jump}
 use Rattle.f77_structure.specs.Terminals.{spoiled, spoiled_run, ends_one, spoil, spoil_behind, spoil_around, spoil_within, spoil_part, is_forbidden, is_part, spoiled_by}
 use Rattle.f77_structure.specs.Steps.{is_else, next_arm, divided_in, part, end_block}
 pub use Rattle.f77_structure.proofs.Roles.{ended_by-found, stood-found, jumped-found, landed-found}

@@ -1,5 +1,5 @@
 -- The statements that are written of a module stand no deeper than those that it was built of.
-use Rattle.std.proofs.Common.{ℕ, List, [], ◌∷◌, refl}
+use Rattle.std.proofs.Common.{ℕ, List, [], ◌∷◌, ◌++◌, refl}
 use Rattle.std.specs.Prelude.{Option}
 use Rattle.f77_statements.specs.Phrases.{PhraseTree}
 use Rattle.f77_parser.specs.Statements.{StatementTree}
@@ -38,5 +38,6 @@ both [] h f = tt
 both (s ∷ ss) h f = record { first = (tt, (h.first, f.first)); others = both ss h.others f.others }
 
 pub cards_flat : CardsFlat
-cards_flat closing ss h f =
-    each-map (Held Any IsFlat) FlatCard (statements_of (build_module closing ss).module_read) (λ c x. x.1) (all_held Any IsFlatPhrase IsFlat kind closing ss (both ss h f))
+cards_flat closing begun s e h f none =
+    let ss = begun ++ s ∷ [] in
+    each-map (Held Any IsFlat) FlatCard (statements_of (build_module closing ss).module_read) (λ c x. x.1) (all_held Any IsFlatPhrase IsFlat kind closing begun s e (both ss h f) none)

@@ -1,19 +1,30 @@
 -- Each statement keeps the numbers in the order of the text.
-use Rattle.std.proofs.Common.{◌≡◌, ℕ, ◌+◌, Bool, true, false, List, [], ◌∷◌, ◌++◌, refl, sym, ap, ◌∙◌, subst}
+use Rattle.std.proofs.Common.{◌≡◌, ℕ, ◌+◌, ◌-◌, Bool, true, false, List, [], ◌∷◌, ◌++◌, length, take, refl, sym, ap, ◌∙◌, subst, arith, length-append}
 use Rattle.std.specs.Prelude.{Option, Some, None, if◌then◌else◌}
 use Rattle.f77_ast.specs.Trees.{ExprTree, StmtTree, stmt, WhatTree, logical_if, continue, arm}
 use Rattle.f77_ast.specs.PlainStmt.{stmts_of, arms_of}
-use Rattle.f77_statements.specs.Phrases.{PhraseTree, program, subroutine, specification, simple, block_if, else_if, else_part, end_if, do_head, end_do, end_module}
+use Rattle.f77_statements.specs.Phrases.{PhraseTree, program, subroutine, function, specification, simple, block_if, else_if, else_part, end_if, do_head, while_head, end_do, end_module}
 use Rattle.f77_statements.specs.Phrases as phrases
 use Rattle.f77_parser.specs.declared.progress.Heading.{Heading}
-use Rattle.f77_parser.specs.SoFar.{OpeningTree, opening_loop, branches, AroundTree, SoFar, add_spot, add_executable, add_logical_if, open_block, what_of, leave_block, is_loop_to, leave_loops, end_loops_at, close_innermost, close_block}
+use Rattle.f77_parser.specs.SoFar.{OpeningTree, opening_loop, opening_while, branches, AroundTree, SoFar, add_spot, add_executable, add_logical_if, open_block, add_while, what_of, leave_block, is_loop_to, leave_loops, end_loops_at, close_innermost, close_block}
 use Rattle.f77_parser.specs.Building.{close_arm, divide_innermost, add_continue, add_phrase}
 use Rattle.roundtrip_programs.specs.Statements.Phrased.{IsWhat, IsPhrase}
-use Rattle.roundtrip_programs.specs.ModuleTexts.Numbered.{last_of, last_by, last_in, IsNumbered, NumberedBelow, AreNumbered, TitleFits}
+use Rattle.roundtrip_programs.specs.ModuleTexts.Numbered.{last_of, last_by, last_in, IsNumbered, NumberedBelow, AreNumbered, TitleFits, FunctionFits}
+use Rattle.f77_printer.specs.ModuleText.{titled_dummies}
 use Rattle.roundtrip_programs.proofs.ModuleTexts.Counting.{more-numbered, last-more, block-arms, more-arms, last-arms-more, plain-below, start_by, start_of, OpeningFits, AroundFits, whole-below, whole-last}
 
 abbrev HeadingFits : Heading → Type 0
-HeadingFits h = TitleFits h.main h.titled h.name h.dummies
+HeadingFits h = record { title : TitleFits h.main h.titled h.name h.dummies; function : FunctionFits h.function h.main h.name h.dummies }
+
+-- the name of a function is its last dummy
+all-but-one : (ds : List (List ℕ)) (n : List ℕ) → take (length ds) (ds ++ n ∷ []) ≡ ds
+all-but-one [] n = refl
+all-but-one (d ∷ ds) n = ap (λ x. d ∷ x) (all-but-one ds n)
+
+pub titled-same : (ds : List (List ℕ)) (n : List ℕ) → titled_dummies (ds ++ n ∷ []) ≡ ds
+titled-same ds n =
+    let k : length (ds ++ n ∷ []) - 1 ≡ length ds = omega (arith, length-append ds (n ∷ [])) in
+    ap (λ i. take i (ds ++ n ∷ [])) k ∙ all-but-one ds n
 
 -- these open blocks, and the open list in them, are numbered in the order of the text
 pub record CountsIn (os : List AroundTree) (p : SoFar) : Type 0 where
@@ -102,6 +113,7 @@ entered-counts f label cs o p h e c = record {
 -- a part begins where a block IF is open that is not in its ELSE
 abbrev pub IsOpenIf : OpeningTree → Type 0
 IsOpenIf (opening_loop d) = ⊥
+IsOpenIf (opening_while l e) = ⊥
 IsOpenIf (branches arms (Some test)) = Unit {0}
 IsOpenIf (branches arms None) = ⊥
 
@@ -112,6 +124,7 @@ Divisible (a ∷ others) = IsOpenIf a.opening
 part-fits : (id : ℕ) (o : OpeningTree) (l : List StmtTree) (test : Option ExprTree) → IsOpenIf o → OpeningFits id o → AreNumbered (start_by id o) (stmts_of l)
     → OpeningFits id (branches (close_arm o l) test) × (last_in (start_by id o) (stmts_of l) ≡ start_by id (branches (close_arm o l) test))
 part-fits id (opening_loop d) l test d' h i = absurd d'
+part-fits id (opening_while k e) l test d' h i = absurd d'
 part-fits id (branches arms None) l test d' h i = absurd d'
 part-fits id (branches arms (Some t)) l None d' h i = (more-arms id arms t (stmts_of l) h i, sym (last-arms-more id arms t (stmts_of l)))
 part-fits id (branches arms (Some t)) l (Some u) d' h i =
@@ -139,9 +152,15 @@ Allowed _ around = Unit {0}
 
 pub phrase-counts : (f : ℕ) (label : Option ℕ) (cs : List (List ℕ)) (phrase : PhraseTree) (p : SoFar) → IsPhrase phrase → Allowed phrase p.around → Counts p
     → Counts (add_phrase f label cs phrase p)
-unfolding add_spot
-phrase-counts f label cs (program n) p h d c = record { heading = refl; around = c.around; list = c.list; count = c.count }
-phrase-counts f label cs (subroutine n ds) p h d c = record { heading = refl; around = c.around; list = c.list; count = c.count }
+unfolding add_spot add_while
+phrase-counts f label cs (program n) p h d c = record { heading = record { title = refl; function = tt }; around = c.around; list = c.list; count = c.count }
+phrase-counts f label cs (subroutine n ds) p h d c = record { heading = record { title = refl; function = tt }; around = c.around; list = c.list; count = c.count }
+phrase-counts f label cs (function form n ds) p h d c = record {
+  heading = record { title = refl; function = record { called = refl; last = ap (λ x. x ++ n ∷ []) (titled-same ds n) } };
+  around = c.around;
+  list = c.list;
+  count = c.count;
+}
 phrase-counts f label cs (specification x) p h d c = record { heading = c.heading; around = c.around; list = c.list; count = c.count }
 phrase-counts f label cs (simple w) p h d c = ended_at-counts label (add_executable f label cs w p) (stated-counts f label cs w p h c)
 phrase-counts f label cs (phrases.logical_if e w) p h d c = ended_at-counts label (add_logical_if f label cs e w p) (conditioned-counts f label cs e w p c)
@@ -151,6 +170,8 @@ phrase-counts f label cs else_part p h d c = divided-counts p.around f cs None p
 phrase-counts f None cs end_if p h d c = closed-counts f cs p c
 phrase-counts f (Some l) cs end_if p h d c = continued-counts f l [] (close_block f cs p) (closed-counts f cs p c)
 phrase-counts f label cs (do_head x) p h d c = entered-counts f label cs (opening_loop x) p tt refl c
+phrase-counts f label cs (while_head l e) p h d c =
+    entered-counts f label cs (opening_while l e) (add_while p) tt refl (record { heading = c.heading; around = c.around; list = c.list; count = c.count })
 phrase-counts f None cs end_do p h d c = closed-counts f cs p c
 phrase-counts f (Some l) cs end_do p h d c = closed-counts f [] (add_continue f l cs p) (continued-counts f l cs p c)
 phrase-counts f None cs end_module p h d c = record { heading = c.heading; around = c.around; list = c.list; count = c.count }

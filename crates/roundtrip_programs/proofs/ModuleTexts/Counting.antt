@@ -3,7 +3,7 @@ use Rattle.std.proofs.Common.{◌≡◌, ℕ, ◌+◌, List, [], ◌∷◌, ◌+
 use Rattle.std.specs.Prelude.{Some, None}
 use Rattle.f77_ast.specs.Trees.{ExprTree, StmtTree, WhatTree, assign, block_if, logical_if, do_loop, call, goto, continue, return, stop, print, read, ArmTree, arm, ArmTrees, no_arms, more_arms, StmtTrees}
 use Rattle.f77_ast.specs.PlainStmt.{stmts_of, arms_of}
-use Rattle.f77_parser.specs.SoFar.{OpeningTree, opening_loop, branches, AroundTree, what_of}
+use Rattle.f77_parser.specs.SoFar.{OpeningTree, opening_loop, opening_while, branches, AroundTree, what_of}
 use Rattle.roundtrip_programs.specs.Statements.Phrased.{IsWhat}
 use Rattle.roundtrip_programs.specs.ModuleTexts.Numbered.{last_of, last_by, last_in, last_arms, IsNumbered, NumberedBelow, NumberedBlock, NumberedArms, AreNumbered}
 
@@ -48,6 +48,7 @@ plain-below (do_loop l) n h = absurd h
 -- the number of the last statement before the open list of a block
 abbrev pub start_by : ℕ → OpeningTree → ℕ
 start_by id (opening_loop d) = id
+start_by id (opening_while l e) = id
 start_by id (branches arms test) = last_arms id (arms_of arms)
 
 abbrev pub start_of : List AroundTree → ℕ
@@ -57,6 +58,7 @@ start_of (a ∷ os) = start_by a.id a.opening
 -- the parts that are closed; an ELSE has one before it
 abbrev pub OpeningFits : ℕ → OpeningTree → Type 0
 OpeningFits id (opening_loop d) = Unit {0}
+OpeningFits id (opening_while l e) = Unit {0}
 OpeningFits id (branches arms (Some test)) = NumberedArms id (arms_of arms)
 OpeningFits id (branches arms None) = NumberedBlock id (arms_of arms)
 
@@ -71,10 +73,12 @@ AroundFits (a ∷ os) = record {
 
 pub whole-below : (id : ℕ) (o : OpeningTree) (l : List StmtTree) → OpeningFits id o → AreNumbered (start_by id o) (stmts_of l) → NumberedBelow id (what_of o l)
 whole-below id (opening_loop d) l h i = i
+whole-below id (opening_while k e) l h i = record { parts = record { below = i; parts = tt }; last = tt }
 whole-below id (branches arms (Some test)) l h i = record { parts = more-arms id arms test (stmts_of l) h i; last = tt }
 whole-below id (branches arms None) l h i = record { parts = h; last = i }
 
 pub whole-last : (id : ℕ) (o : OpeningTree) (l : List StmtTree) → last_by id (what_of o l) ≡ last_in (start_by id o) (stmts_of l)
 whole-last id (opening_loop d) l = refl
+whole-last id (opening_while k e) l = refl
 whole-last id (branches arms (Some test)) l = last-arms-more id arms test (stmts_of l)
 whole-last id (branches arms None) l = refl

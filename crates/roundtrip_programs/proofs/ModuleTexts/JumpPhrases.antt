@@ -2,7 +2,7 @@
 use Rattle.std.proofs.Common.{◌≡◌, ℕ, ◌+◌, ◌≤◌, Bool, true, false, List, [], ◌∷◌, refl, sym, ap, ◌∙◌, arith, le_refl}
 use Rattle.std.specs.Prelude.{Option, Some, None, if◌then◌else◌}
 use Rattle.f77_ast.specs.Trees.{ExprTree, continue}
-use Rattle.f77_statements.specs.Phrases.{PhraseTree, program, subroutine, specification, simple, logical_if, block_if, else_if, else_part, end_if, do_head, end_do, end_module}
+use Rattle.f77_statements.specs.Phrases.{PhraseTree, program, subroutine, function, specification, simple, logical_if, block_if, else_if, else_part, end_if, do_head, while_head, end_do, end_module}
 use Rattle.f77_structure.specs.declared.mark.Action.{Action}
 use Rattle.f77_structure.specs.declared.open.Kind.{Kind}
 use Rattle.f77_structure.specs.declared.open.Kind.TheVariants.{Do, If, Else}
@@ -16,7 +16,7 @@ use Rattle.f77_structure.specs.Blocks as steps
 use Rattle.f77_structure.specs.Blocks.{leave_innermost, push_block, add_landing, parse_executable, keep_jump}
 use Rattle.f77_structure.specs.Steps.{part, end_block, by_role}
 use Rattle.f77_parser.specs.Roles.{role_of, action_of}
-use Rattle.f77_parser.specs.SoFar.{AroundTree, SoFar, add_spot, add_executable, add_logical_if, open_block, leave_block, is_loop_to, leave_loops, end_loops_at, close_innermost, close_block}
+use Rattle.f77_parser.specs.SoFar.{AroundTree, SoFar, add_spot, add_executable, add_logical_if, open_block, add_while, leave_block, is_loop_to, leave_loops, end_loops_at, close_innermost, close_block}
 use Rattle.f77_parser.specs.Building.{divide_innermost, add_continue, add_phrase}
 use Rattle.roundtrip_programs.proofs.ModuleTexts.Calm.{true-false, part-calm, ended-calm, entered-calm, stood-found, jumped-stack}
 use Rattle.roundtrip_programs.proofs.ModuleTexts.Counted.{Divisible}
@@ -140,9 +140,10 @@ divided-stands at next line f cs test (a ∷ xs) (o ∷ os) p b e g m d h s =
 
 pub phrase-stands : (at f : ℕ) (label : Option ℕ) (cs : List (List ℕ)) (phrase : PhraseTree) (line : ℕ) (p : SoFar) (b : Blocks) → StandsAlone phrase → Matches p.around b.stack
     → (by_role (role_of phrase) label line b).found ≡ None → Before at b (outline_so p) → Stands at (by_role (role_of phrase) label line b) (add_phrase f label cs phrase p)
-unfolding add_spot add_executable add_logical_if open_block
+unfolding add_spot add_executable add_logical_if open_block add_while
 phrase-stands at f label cs (program n) line p b i m h s = begun at (at + 1) b (outline_so p) s (omega arith)
 phrase-stands at f label cs (subroutine n ds) line p b i m h s = begun at (at + 1) b (outline_so p) s (omega arith)
+phrase-stands at f label cs (function form n ds) line p b i m h s = begun at (at + 1) b (outline_so p) s (omega arith)
 phrase-stands at f label cs (specification d) line p b i m h s = begun at (at + 1) b (outline_so p) s (omega arith)
 phrase-stands at f label cs (simple w) line p b i m h s = simply-stands at label (action_of w) line p (add_executable f label cs w p) b m (stated-outline f label cs w p i) s
 phrase-stands at f label cs (logical_if e w) line p b i m h s =
@@ -163,6 +164,7 @@ phrase-stands at f (Some l) cs end_if line p b i m h s =
     continued-stands at f l [] (close_block f cs p) x (closed-matched sought.BlockIf (within_if (first_of b.stack)) line f cs p b m g)
     (closed-stands at sought.BlockIf (within_if (first_of b.stack)) line f cs p b m (begun at (at + 1) b (outline_so p) s (omega arith)) g)
 phrase-stands at f label cs (do_head d) line p b i m h s = entered-stands at (Do d.label) line label (outline_so p) b h s
+phrase-stands at f label cs (while_head l e) line p b i m h s = entered-stands at (Do l) line label (outline_so p) b h s
 phrase-stands at f None cs end_do line p b i m h s =
     let x = parse_executable None b in
     closed-stands at sought.PlainDo (within_do (first_of x.stack)) line f cs p x (stood-matched None p b m)

@@ -15,8 +15,9 @@ use Rattle.f77_structure.specs.Steps.{by_role, parse_statement, all_stepped, not
 use Rattle.f77_parser.specs.Roles.{role_of}
 use Rattle.f77_parser.specs.Statements.{StatementTree, mark_of, marks_of}
 use Rattle.f77_parser.specs.SoFar.{AroundTree, SoFar}
-use Rattle.f77_parser.specs.Building.{add_statement, add_all, no_statements, build_module}
+use Rattle.f77_parser.specs.Building.{add_statement, add_all, no_statements, written_module, build_module}
 use Rattle.roundtrip_programs.specs.Statements.Formed.{Each}
+use Rattle.roundtrip_programs.specs.ModuleTexts.Folded.{folded}
 use Rattle.roundtrip_programs.specs.ModuleTexts.Numbered.{IsWell}
 use Rattle.roundtrip_programs.specs.ModuleTexts.ModuleLaws.{IsStatement, AreWritten}
 use Rattle.roundtrip_programs.proofs.ModuleTexts.Bare.{all_turned, all_stated-bare, all_made-turned}
@@ -24,7 +25,9 @@ use Rattle.roundtrip_programs.proofs.ModuleTexts.TreeLists.{stmts_of-list_of}
 use Rattle.roundtrip_programs.proofs.ModuleTexts.Again.{made}
 use Rattle.roundtrip_programs.proofs.ModuleTexts.Steady.{step-calm, all-found, no-fault}
 use Rattle.roundtrip_programs.proofs.ModuleTexts.Matched.{Matches, on-stack, phrase-matched}
-use Rattle.roundtrip_programs.proofs.ModuleTexts.Well.{nothing-goes, all-closed, built_well}
+use Rattle.roundtrip_programs.proofs.ModuleTexts.Well.{nothing-goes, all-closed}
+use Rattle.roundtrip_programs.proofs.ModuleTexts.FoldedLaws.{written_back}
+use Rattle.roundtrip_programs.proofs.ModuleTexts.Built.{written_well, built_well}
 use Rattle.roundtrip_programs.proofs.ModuleTexts.Steps.{built_nested, blocks_again}
 use Rattle.roundtrip_programs.specs.ModuleTexts.Cards.{statements_of}
 use Rattle.roundtrip_programs.specs.ModuleTexts.JumpLaws.{JumpsAgain}
@@ -77,13 +80,13 @@ all-alone (s ∷ ss) h = record { first = phrase-alone s.phrase h.first; others 
 body-outline : (p : SoFar) → p.around ≡ [] → outline_so p ≡ outline_in (stmts_of p.list) nothing_outlined
 body-outline p e = ap (λ (xs : List AroundTree). outline_with xs p) e
 
-written-outline : (m : ModuleTree) (ss : List StatementTree) → IsWell m → AreWritten m ss → outline_so (add_all ss no_statements) ≡ outline_in m.body nothing_outlined
+written-outline : (m : ModuleTree) (ss : List StatementTree) → IsWell m → AreWritten m ss → outline_so (add_all ss no_statements) ≡ outline_in (folded m).body nothing_outlined
 written-outline m ss well written =
     ap outline_so (all_stated-bare ss no_statements
     ∙ ap (λ ls. all_turned ls no_statements) written
     ∙ sym (all_made-turned (statements_of m) no_statements)
     ∙ made m well)
-    ∙ ap (λ t. outline_in t nothing_outlined) (stmts_of-list_of m.body)
+    ∙ ap (λ t. outline_in t nothing_outlined) (stmts_of-list_of (folded m).body)
 
 -- ---- the GO TOs
 
@@ -97,10 +100,10 @@ none-faulty b x s e r =
     let P : List Landing → Type 0 = λ ls. AllReach ls x.goings in
     ap (all_judged b.spans b.landings b.jumps) e ∙ reach-judged s.at b.spans b.landings b.jumps x.goings s.shown.jumps (subst P (sym s.shown.landings) r)
 
--- in a module that is read each GO TO reaches its label
+-- in a module as it is written each GO TO reaches its label
 pub all_reach_there : (closing : List (List ℕ)) (begun : List StatementTree) (s : StatementTree) → s.phrase ≡ end_module → Each IsStatement (begun ++ s ∷ []) → fault_of (marks_of (begun ++ s ∷ [])) ≡ None
-    → (let x = outline_in (build_module closing (begun ++ s ∷ [])).module_read.body nothing_outlined in AllReach x.landings x.goings)
-unfolding build_module
+    → (let x = outline_in (written_module closing (begun ++ s ∷ [])).module_read.body nothing_outlined in AllReach x.landings x.goings)
+unfolding written_module
 all_reach_there closing begun s e i h =
     let rs = begun ++ s ∷ [] in
     let f = no-fault (marks_of rs) h in
@@ -111,7 +114,7 @@ all_reach_there closing begun s e i h =
     subst P same (all-reach (blocks_of (marks_of rs)) (outline_so p) read f.1)
 
 pub jumps_again : JumpsAgain
-unfolding build_module
+unfolding build_module written_module
 jumps_again closing begun s ss e i h written =
     let rs = begun ++ s ∷ [] in
     let m = (build_module closing rs).module_read in
@@ -122,6 +125,8 @@ jumps_again closing begun s ss e i h written =
     let g = blocks_again m ss (built_nested closing begun s e i h) written in
     let read = all-stand rs 0 no_statements nothing_open (all-alone rs i) tt nothing-shown f.2 in
     let again = all-stand ss 0 no_statements nothing_open (written_alone m ss written) tt nothing-shown g in
-    let same : outline_so p ≡ outline_so q = body-outline p (all-closed begun s 0 no_statements nothing_open e i nothing-goes f.2) ∙ sym (written-outline m ss well written) in
+    let back = written_back (written_module closing rs).module_read (written_well closing begun s e i h) in
+    let same : outline_so p ≡ outline_so q =
+    body-outline p (all-closed begun s 0 no_statements nothing_open e i nothing-goes f.2) ∙ ap (λ (x : ModuleTree). outline_in x.body nothing_outlined) (sym back) ∙ sym (written-outline m ss well written) in
     let P : Outline → Type 0 = λ x. AllReach x.landings x.goings in
     none-faulty (blocks_of (marks_of ss)) (outline_so q) again g (subst P same (all-reach (blocks_of (marks_of rs)) (outline_so p) read f.1))

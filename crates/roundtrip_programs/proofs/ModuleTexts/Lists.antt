@@ -111,7 +111,7 @@ wrap : {A : Type 0} (V : ℕ → A → Type 0) (n : ℕ) (xs : List A) → Leads
 wrap V n [] o h = tt
 wrap V n (x ∷ xs) o h = (o, h)
 
-enclosed-even : {A : Type 0} (one : Reader A) (V : ℕ → A → Type 0) (n : ℕ) (s : State) → Even one V → Leads n (n + 1) (codes "(") → IsShallow (n + 1) s.rest → Within (in_parentheses one s) n (Wrapped V n)
+pub enclosed-even : {A : Type 0} (one : Reader A) (V : ℕ → A → Type 0) (n : ℕ) (s : State) → Even one V → Leads n (n + 1) (codes "(") → IsShallow (n + 1) s.rest → Within (in_parentheses one s) n (Wrapped V n)
 unfolding in_parentheses
 enclosed-even one V n s e o h =
     else_word (codes ")") s (λ t. Some ([], t)) (ending (codes ")") (items one) s) (n + 1) n (Wrapped V n) h (λ r i. (tt, closed n r i))

@@ -2,7 +2,7 @@
 use Rattle.std.proofs.Common.{◌≡◌, ℕ, Bool, true, false, List, [], ◌∷◌, refl, sym, ap, ◌∙◌, subst}
 use Rattle.std.specs.Prelude.{Option, Some, None, if◌then◌else◌}
 use Rattle.f77_ast.specs.Trees.{ExprTree, continue}
-use Rattle.f77_statements.specs.Phrases.{PhraseTree, program, subroutine, specification, simple, logical_if, block_if, else_if, else_part, end_if, do_head, end_do, end_module}
+use Rattle.f77_statements.specs.Phrases.{PhraseTree, program, subroutine, function, specification, simple, logical_if, block_if, else_if, else_part, end_if, do_head, while_head, end_do, end_module}
 use Rattle.f77_structure.specs.declared.mark.Action.{Action}
 use Rattle.f77_structure.specs.declared.open.Kind.{Kind}
 use Rattle.f77_structure.specs.declared.open.Kind.TheVariants.{Do, If, Else}
@@ -17,13 +17,14 @@ use Rattle.f77_structure.specs.Blocks as steps
 use Rattle.f77_structure.specs.Blocks.{leave_innermost, add_landing, parse_executable, keep_jump}
 use Rattle.f77_structure.specs.Steps.{is_else, part, end_block, by_role}
 use Rattle.f77_parser.specs.Roles.{role_of, action_of}
-use Rattle.f77_parser.specs.SoFar.{OpeningTree, opening_loop, branches, AroundTree, SoFar, add_spot, add_executable, add_logical_if, open_block, leave_block, is_label, is_loop_to, leave_loops, end_loops_at, close_innermost, close_block}
+use Rattle.f77_parser.specs.SoFar.{OpeningTree, opening_loop, opening_while, branches, AroundTree, SoFar, add_spot, add_executable, add_logical_if, open_block, add_while, leave_block, is_label, is_loop_to, leave_loops, end_loops_at, close_innermost, close_block}
 use Rattle.f77_parser.specs.Building.{close_arm, divide_innermost, add_continue, add_phrase}
 use Rattle.roundtrip_programs.proofs.ModuleTexts.Calm.{Fresh, Fitting, true-false, part-none, part-calm, ended-calm, down-calm, stood-found, jumped-stack, landed-stack}
 use Rattle.roundtrip_programs.proofs.ModuleTexts.Counted.{IsOpenIf, Divisible, Allowed}
 
 abbrev pub kind_of : OpeningTree → Kind
 kind_of (opening_loop d) = Do d.label
+kind_of (opening_while l e) = Do l
 kind_of (branches arms (Some test)) = If
 kind_of (branches arms None) = Else
 
@@ -45,6 +46,7 @@ label-same l (Some m) = refl
 
 pub loop-same : (l : ℕ) (o : OpeningTree) → is_loop_to l o ≡ ends_at l (kind_of o)
 loop-same l (opening_loop d) = label-same l d.label
+loop-same l (opening_while m e) = label-same l m
 loop-same l (branches arms (Some test)) = refl
 loop-same l (branches arms None) = refl
 
@@ -106,6 +108,7 @@ entered-matched kind line f label cs o p b e m = record { kind = e; fresh = refl
 
 open-if : (o : OpeningTree) (k : Kind) → kind_of o ≡ k → is_if k ≡ true → is_else k ≡ false → IsOpenIf o
 open-if (opening_loop d) k e i n = let x : is_if k ≡ false = ap is_if (sym e) in true-false (sym i ∙ x)
+open-if (opening_while l t) k e i n = let x : is_if k ≡ false = ap is_if (sym e) in true-false (sym i ∙ x)
 open-if (branches arms (Some test)) k e i n = tt
 open-if (branches arms None) k e i n = let x : is_else k ≡ true = ap is_else (sym e) in true-false (sym x ∙ n)
 
@@ -163,9 +166,10 @@ module-matched p b m h = on-stack p.around b.stack _ (ap (λ x. x.stack) (sym (m
 
 pub phrase-matched : (f : ℕ) (label : Option ℕ) (cs : List (List ℕ)) (phrase : PhraseTree) (line : ℕ) (p : SoFar) (b : Blocks) → Matches p.around b.stack
     → (by_role (role_of phrase) label line b).found ≡ None → Turned f label cs phrase line p b
-unfolding add_spot add_executable add_logical_if
+unfolding add_spot add_executable add_logical_if add_while
 phrase-matched f label cs (program n) line p b m h = record { may = tt; matched = m }
 phrase-matched f label cs (subroutine n ds) line p b m h = record { may = tt; matched = m }
+phrase-matched f label cs (function form n ds) line p b m h = record { may = tt; matched = m }
 phrase-matched f label cs (specification d) line p b m h = record { may = tt; matched = m }
 phrase-matched f label cs (simple w) line p b m h = record { may = tt; matched = simply-matched label (action_of w) line (add_executable f label cs w p) b m }
 phrase-matched f label cs (logical_if e w) line p b m h = record { may = tt; matched = simply-matched label (action_of w) line (add_logical_if f label cs e w p) b m }
@@ -181,6 +185,7 @@ phrase-matched f (Some l) cs end_if line p b m h =
     let x = end_block sought.BlockIf (within_if (first_of b.stack)) line b in
     record { may = tt; matched = continued-matched f l [] (close_block f cs p) x (closed-matched sought.BlockIf (within_if (first_of b.stack)) line f cs p b m (sym (stood-found (Some l) x) ∙ h)) }
 phrase-matched f label cs (do_head d) line p b m h = record { may = tt; matched = entered-matched (Do d.label) line f label cs (opening_loop d) p b refl m }
+phrase-matched f label cs (while_head l e) line p b m h = record { may = tt; matched = entered-matched (Do l) line f label cs (opening_while l e) (add_while p) b refl m }
 phrase-matched f None cs end_do line p b m h =
     let x = parse_executable None b in
     record { may = tt; matched = closed-matched sought.PlainDo (within_do (first_of x.stack)) line f cs p x (stood-matched None p b m) h }

@@ -1,9 +1,9 @@
 -- In a module without a fault at most 64 blocks stand in one another.
 use Rattle.std.proofs.Common.{◌≡◌, ℕ, suc, ◌+◌, Bool, true, false, List, [], ◌∷◌, ◌++◌, length, refl, sym, ap, ◌∙◌, subst}
 use Rattle.std.specs.Prelude.{Option, Some, None, nat_le, if◌then◌else◌}
-use Rattle.f77_ast.specs.Trees.{ExprTree, StmtTree, stmt, WhatTree, assign, block_if, logical_if, do_loop, call, goto, continue, return, stop, print, read, ArmTree, arm, no_else, otherwise, StmtTrees}
+use Rattle.f77_ast.specs.Trees.{ExprTree, StmtTree, stmt, WhatTree, assign, block_if, logical_if, do_loop, call, goto, continue, return, stop, print, read, ArmTree, arm, StmtTrees}
 use Rattle.f77_ast.specs.PlainStmt.{stmts_of, arms_of}
-use Rattle.f77_statements.specs.Phrases.{PhraseTree, program, subroutine, specification, simple, else_if, else_part, end_if, do_head, end_do, end_module}
+use Rattle.f77_statements.specs.Phrases.{PhraseTree, program, subroutine, function, specification, simple, else_if, else_part, end_if, do_head, while_head, end_do, end_module}
 use Rattle.f77_statements.specs.Phrases as phrases
 use Rattle.f77_structure.specs.declared.open.Kind.TheVariants as kinds
 use Rattle.f77_structure.specs.declared.open.Open.{Open}
@@ -11,7 +11,7 @@ use Rattle.f77_structure.specs.declared.blocks.Blocks.{Blocks}
 use Rattle.f77_structure.specs.Blocks.{add_landing}
 use Rattle.f77_structure.specs.Steps.{by_role}
 use Rattle.f77_parser.specs.Roles.{role_of}
-use Rattle.f77_parser.specs.SoFar.{OpeningTree, opening_loop, branches, AroundTree, SoFar, add_spot, add_executable, add_logical_if, open_block, what_of, leave_block, is_loop_to, leave_loops, end_loops_at, close_innermost, close_block}
+use Rattle.f77_parser.specs.SoFar.{OpeningTree, opening_loop, opening_while, branches, AroundTree, SoFar, add_spot, add_executable, add_logical_if, open_block, add_while, what_of, leave_block, is_loop_to, leave_loops, end_loops_at, close_innermost, close_block}
 use Rattle.f77_parser.specs.Building.{close_arm, divide_innermost, add_continue, add_phrase}
 use Rattle.roundtrip_programs.specs.Statements.Phrased.{IsWhat, IsPhrase}
 use Rattle.roundtrip_programs.specs.ModuleTexts.Shallow.{HasRoom, IsShallow, ShallowBelow, ShallowArms, AreShallow}
@@ -41,6 +41,7 @@ plain-shallow (do_loop l) n h = absurd h
 
 abbrev OpeningNests : ℕ → OpeningTree → Type 0
 OpeningNests n (opening_loop d) = Unit {0}
+OpeningNests n (opening_while l e) = Unit {0}
 OpeningNests n (branches arms test) = ShallowArms n (arms_of arms)
 
 abbrev AroundNests : List AroundTree → Type 0
@@ -54,6 +55,7 @@ AroundNests (a ∷ os) = record {
 
 whole-shallow : (n : ℕ) (o : OpeningTree) (l : List StmtTree) → HasRoom n → OpeningNests (suc n) o → AreShallow (suc n) (stmts_of l) → ShallowBelow n (what_of o l)
 whole-shallow n (opening_loop d) l r h i = record { room = r; below = i }
+whole-shallow n (opening_while k e) l r h i = record { room = r; parts = record { below = i; parts = tt }; last = tt }
 whole-shallow n (branches arms (Some t)) l r h i = record { room = r; parts = more-arms (suc n) arms t (stmts_of l) h i; last = tt }
 whole-shallow n (branches arms None) l r h i = record { room = r; parts = h; last = i }
 
@@ -114,6 +116,7 @@ entered-nests f label cs o p h r c = record { around = record { list = c.list; r
 
 arms-nest : (n : ℕ) (o : OpeningTree) (l : List StmtTree) → OpeningNests n o → AreShallow n (stmts_of l) → ShallowArms n (arms_of (close_arm o l))
 arms-nest n (opening_loop d) l h i = tt
+arms-nest n (opening_while k e) l h i = tt
 arms-nest n (branches arms (Some t)) l h i = more-arms n arms t (stmts_of l) h i
 arms-nest n (branches arms None) l h i = h
 
@@ -140,9 +143,10 @@ roomy label p b m h = ap (nat_le 64) (same-length p.around b.stack m ∙ ap leng
 
 pub phrase-nests : (f : ℕ) (label : Option ℕ) (cs : List (List ℕ)) (phrase : PhraseTree) (line : ℕ) (p : SoFar) (b : Blocks) → IsPhrase phrase → Matches p.around b.stack
     → (by_role (role_of phrase) label line b).found ≡ None → Nests p → Nests (add_phrase f label cs phrase p)
-unfolding add_spot
+unfolding add_spot add_while
 phrase-nests f label cs (program n) line p b i m h c = record { around = c.around; list = c.list }
 phrase-nests f label cs (subroutine n ds) line p b i m h c = record { around = c.around; list = c.list }
+phrase-nests f label cs (function form n ds) line p b i m h c = record { around = c.around; list = c.list }
 phrase-nests f label cs (specification x) line p b i m h c = record { around = c.around; list = c.list }
 phrase-nests f label cs (simple w) line p b i m h c = ended_at-nests label (add_executable f label cs w p) (stated-nests f label cs w p i c)
 phrase-nests f label cs (phrases.logical_if e w) line p b i m h c = ended_at-nests label (add_logical_if f label cs e w p) (conditioned-nests f label cs e w p c)
@@ -154,6 +158,8 @@ phrase-nests f None cs end_if line p b i m h c = closed-nests f cs p c
 phrase-nests f (Some l) cs end_if line p b i m h c = continued-nests f l [] (close_block f cs p) (closed-nests f cs p c)
 phrase-nests f label cs (do_head d) line p b i m h c =
     entered-nests f label cs (opening_loop d) p tt (roomy label p b m (entered-calm (kinds.Do d.label) line (add_landing label b) h).2) c
+phrase-nests f label cs (while_head l e) line p b i m h c =
+    entered-nests f label cs (opening_while l e) (add_while p) tt (roomy label p b m (entered-calm (kinds.Do l) line (add_landing label b) h).2) (record { around = c.around; list = c.list })
 phrase-nests f None cs end_do line p b i m h c = closed-nests f cs p c
 phrase-nests f (Some l) cs end_do line p b i m h c = closed-nests f [] (add_continue f l cs p) (continued-nests f l cs p c)
 phrase-nests f None cs end_module line p b i m h c = record { around = c.around; list = c.list }

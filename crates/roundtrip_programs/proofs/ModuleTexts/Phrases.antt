@@ -2,6 +2,8 @@
 use Rattle.std.proofs.Common.{◌≡◌, ℕ, ◌+◌, List, [], ◌∷◌, ◌++◌, refl, ap, sym, ◌∙◌, append-nil, Option, Some, None, Bool, true, false, if◌then◌else◌, decimal}
 use Rattle.std.specs.Prelude.{codes, Result, Ok, Err}
 use Rattle.f77_ast.specs.Trees.{WhatTree}
+use Rattle.f77_ast.specs.declared.module.FunctionForm.{FunctionForm}
+use Rattle.f77_ast.specs.declared.module.FunctionForm.TheVariants.{Plain, Integer, Logical}
 use Rattle.f77_ast.specs.DeclTrees.{DeclTree}
 use Rattle.f77_structure.specs.Depth.{is_deep_from, is_deep}
 use Rattle.f77_exprs.specs.State.{State, start, Reader, ◌>>=◌}
@@ -10,16 +12,16 @@ use Rattle.f77_exprs.specs.Grammar.{expression}
 use Rattle.f77_forms.specs.declared.form.FormId.{FormId}
 use Rattle.f77_forms.specs.declared.form.FormId.TheVariants as forms
 use Rattle.f77_statements.specs.declared.refusal.Cause.{Cause}
-use Rattle.f77_statements.specs.Lists.{skip_comma, maybe_in_parentheses}
-use Rattle.f77_statements.specs.Phrases.{PhraseTree, program, subroutine, specification, simple, block_if, else_if, else_part, end_if, do_head, end_do, end_module}
+use Rattle.f77_statements.specs.Lists.{skip_comma, in_parentheses, maybe_in_parentheses}
+use Rattle.f77_statements.specs.Phrases.{PhraseTree, program, subroutine, function, specification, simple, block_if, else_if, else_part, end_if, do_head, while_head, end_do, end_module}
 use Rattle.f77_statements.specs.Phrases as phrases
 use Rattle.f77_statements.specs.Specifications.{implicit_statement, integer_statement, logical_statement, dimension_statement, parameter_statement, common_statement, equivalence_statement, save_statement, data_statement}
 use Rattle.f77_statements.specs.Executables.{assignment, call_statement, goto_statement, continue_statement, return_statement, stop_statement, print_statement, write_statement, read_statement}
-use Rattle.f77_statements.specs.Statements.{program_statement, subroutine_statement, if_test, block_if_statement, else_if_statement, form_at, what_of, what_at, logical_if_statement, terminal, some_step, step, range, do_statement, alone, specified, simply, phrase_by, phrase_in, phrase_of}
+use Rattle.f77_statements.specs.Statements.{program_statement, subroutine_statement, function_statement, if_test, block_if_statement, else_if_statement, form_at, what_of, what_at, logical_if_statement, terminal, some_step, step, range, do_statement, while_statement, alone, specified, simply, phrase_by, phrase_in, phrase_of}
 use Rattle.f77_printer.specs.ExprText.{expr_text}
-use Rattle.f77_printer.specs.DeclText.{decl_text}
+use Rattle.f77_printer.specs.DeclText.{joined_by, decl_text}
 use Rattle.f77_printer.specs.StatementText.{what_text, step_text}
-use Rattle.f77_printer.specs.ModuleText.{dummies_text}
+use Rattle.f77_printer.specs.ModuleText.{dummies_text, function_word}
 use Rattle.roundtrip_programs.specs.Statements.Written.{phrase_text, as_written}
 use Rattle.roundtrip_programs.proofs.Statements.Readings.{After}
 use Rattle.roundtrip_programs.proofs.Statements.Verdicts.{clean, verdict_given}
@@ -29,7 +31,7 @@ use Rattle.roundtrip_programs.proofs.ModuleTexts.Levels.{at, IsShallow, Leads, j
 use Rattle.roundtrip_programs.proofs.ModuleTexts.Stripping.{stripped_same}
 use Rattle.roundtrip_programs.proofs.ModuleTexts.Readers.{Within, Even, Level, seq, then_read, then_word, done_word}
 use Rattle.roundtrip_programs.proofs.ModuleTexts.Names.{name-even, label-even}
-use Rattle.roundtrip_programs.proofs.ModuleTexts.Lists.{joined-leads, Wrapped, maybe_enclosed-even, ending_closed}
+use Rattle.roundtrip_programs.proofs.ModuleTexts.Lists.{joined-leads, Wrapped, enclosed-even, maybe_enclosed-even, ending_closed}
 use Rattle.roundtrip_programs.proofs.ModuleTexts.Exprs.{expression_even}
 use Rattle.roundtrip_programs.proofs.ModuleTexts.Whats.{what_even}
 use Rattle.roundtrip_programs.proofs.ModuleTexts.Blocks.{past_comma-shallow}
@@ -54,6 +56,29 @@ subroutine-even n s h =
     (λ r i. then_read name_at (Level (λ x. x)) _ (record s { rest = r }) n n (Level phrase_text n) name-even i
     (λ f x j. then_read (maybe_in_parentheses name_at) (Wrapped (Level (λ y. y))) _ f.1 n n (Level phrase_text n) (maybe_enclosed-even name_at (Level (λ y. y)) name-even) j
     (λ ds y k. (join (join (plain n (codes "SUBROUTINE ") refl) x) (dummies_leads n ds.0 y), k))))
+
+-- what a word leads to is where it began
+abbrev Keeps : List ℕ → Type 0
+Keeps word = (n : ℕ) (r : List ℕ) → IsShallow n (word ++ r) → IsShallow n r
+
+listed-leads : (n : ℕ) (ds : List (List ℕ)) → Wrapped (Level (λ x. x)) n ds → Leads (n + 1) (n + 1) (joined_by (λ x. x) ds)
+listed-leads n [] h = plain (n + 1) [] refl
+listed-leads n (d ∷ ds) h = joined-leads (λ x. x) (n + 1) (d ∷ ds) h.1
+
+word-leads : (form : FunctionForm) (n : ℕ) → Leads n n (function_word form)
+word-leads Plain n = plain n (codes "FUNCTION ") refl
+word-leads Integer n = plain n (codes "INTEGER FUNCTION ") refl
+word-leads Logical n = plain n (codes "LOGICAL FUNCTION ") refl
+
+function-even : (word : List ℕ) (form : FunctionForm) → Keeps word → Even (function_statement word form) (Level phrase_text)
+unfolding function_statement
+function-even word form k n s h =
+    then_word word s _ n n (Level phrase_text n) h
+    (λ r i. then_read name_at (Level (λ x. x)) _ (record s { rest = r }) n n (Level phrase_text n) name-even (k n r i)
+    (λ f x j. then_word (codes "(") f.1 _ n n (Level phrase_text n) j
+    (λ q l. seq (in_parentheses name_at (record f.1 { rest = q })) _ n n (Wrapped (Level (λ y. y)) n) (Level phrase_text n)
+    (enclosed-even name_at (Level (λ y. y)) n (record f.1 { rest = q }) name-even (opens n q l) (opened n q l))
+    (λ ds y o. (join (join (word-leads form n) x) (join (join (opens n q l) (listed-leads n ds.0 y)) (closes n)), o)))))
 
 -- ---- IF
 
@@ -126,11 +151,16 @@ do-even n s h =
     then_word (codes "DO") s _ n n (Level phrase_text n) h
     (λ r i. then_read terminal (λ m l. Unit {0}) _ (record s { rest = r }) n n (Level phrase_text n) terminal-even i (λ l x j. range-even l.0 n l.1 j))
 
--- ---- each form
+while-even : Even while_statement (Level phrase_text)
+unfolding while_statement
+while-even n s h =
+    then_word (codes "DO") s _ n n (Level phrase_text n) h
+    (λ r i. then_read terminal (λ m l. Unit {0}) _ (record s { rest = r }) n n (Level phrase_text n) terminal-even i
+    (λ l x j. then_word (codes "WHILE(") l.1 _ n n (Level phrase_text n) j
+    (λ q k. seq (if_test (record l.1 { rest = q })) _ n n (Level expr_text (n + 1)) (Level phrase_text n) (test-even n (record l.1 { rest = q }) (opened n q k))
+    (λ e y o. (join (join (join (plain n (codes "DO WHILE ") refl) (opens n q k)) y) (closes n), o)))))
 
--- what a word leads to is where it began
-abbrev Keeps : List ℕ → Type 0
-Keeps word = (n : ℕ) (r : List ℕ) → IsShallow n (word ++ r) → IsShallow n r
+-- ---- each form
 
 alone-even : (word : List ℕ) (p : PhraseTree) → Keeps word → ((n : ℕ) → Level phrase_text n p) → Even (alone word p) (Level phrase_text)
 unfolding alone
@@ -147,6 +177,9 @@ simply-even R e n s h = then_read R (Level what_text) (λ w. Some (simple w.0, w
 form_even : (form : FormId) → Even (phrase_by form) (Level phrase_text)
 form_even forms.Program = program-even
 form_even forms.Subroutine = subroutine-even
+form_even forms.Function = function-even (codes "FUNCTION") Plain (λ n r h. h)
+form_even forms.IntegerFunction = function-even (codes "INTEGERFUNCTION") Integer (λ n r h. h)
+form_even forms.LogicalFunction = function-even (codes "LOGICALFUNCTION") Logical (λ n r h. h)
 form_even forms.Implicit = specified-even implicit_statement implicit_even
 form_even forms.Integer = specified-even integer_statement integer_even
 form_even forms.Logical = specified-even logical_statement logical_even
@@ -163,6 +196,7 @@ form_even forms.ElseIf = else-even
 form_even forms.Else = alone-even (codes "ELSE") else_part (λ n r h. h) (λ n. plain n (codes "ELSE") refl)
 form_even forms.EndIf = alone-even (codes "ENDIF") end_if (λ n r h. h) (λ n. plain n (codes "END IF") refl)
 form_even forms.Do = do-even
+form_even forms.DoWhile = while-even
 form_even forms.EndDo = alone-even (codes "ENDDO") end_do (λ n r h. h) (λ n. plain n (codes "END DO") refl)
 form_even forms.Continue = simply-even continue_statement (what_even forms.Continue)
 form_even forms.Return = simply-even return_statement (what_even forms.Return)
@@ -197,6 +231,7 @@ phrase_flat body p h d = in_flat (form_at body) body p h d
 pub kept_flat : (p : PhraseTree) → IsFlat p → IsFlat (as_written p)
 kept_flat (program n) h = h
 kept_flat (subroutine n ds) h = h
+kept_flat (function form n ds) h = h
 kept_flat (specification d) h = h
 kept_flat (simple w) h = h
 kept_flat (phrases.logical_if e w) h = h
@@ -205,6 +240,7 @@ kept_flat (else_if e) h = h
 kept_flat else_part h = h
 kept_flat end_if h = h
 kept_flat (do_head d) h = h
+kept_flat (while_head l e) h = h
 kept_flat end_do h = h
 kept_flat end_module h = h
 

@@ -5,7 +5,7 @@ use Rattle.f77_ast.specs.Trees.{ExprTree, StmtTree, stmt, WhatTree, assign, bloc
 use Rattle.f77_ast.specs.PlainStmt.{stmts_of, arms_of}
 use Rattle.f77_statements.specs.Phrases.{PhraseTree, simple}
 use Rattle.f77_parser.specs.Roles.{action_of}
-use Rattle.f77_parser.specs.SoFar.{OpeningTree, opening_loop, branches, AroundTree, SoFar, add_spot, add_executable, add_logical_if, what_of, leave_block}
+use Rattle.f77_parser.specs.SoFar.{OpeningTree, opening_loop, opening_while, branches, AroundTree, SoFar, add_spot, add_executable, add_logical_if, what_of, leave_block}
 use Rattle.f77_parser.specs.Building.{close_arm}
 use Rattle.roundtrip_programs.specs.Statements.Phrased.{IsWhat, IsPhrase}
 use Rattle.roundtrip_programs.proofs.ModuleTexts.Counted.{IsOpenIf}
@@ -15,6 +15,7 @@ use Rattle.roundtrip_programs.proofs.ModuleTexts.TreeOutlines.{outline_of, outli
 -- an open block up to its open list
 abbrev pub outline_opening : OpeningTree → Outline → Outline
 outline_opening (opening_loop d) o = begins o
+outline_opening (opening_while l e) o = begins o
 outline_opening (branches arms test) o = begins (outline_arms (arms_of arms) o)
 
 abbrev pub outline_around : List AroundTree → Outline
@@ -42,6 +43,7 @@ arms-more (arm u b ∷ l) t body o = arms-more l t body (leaves (outline_in b (b
 whole : (label : Option ℕ) (opening : OpeningTree) (l : List StmtTree) (o : Outline)
     → outline_by label (what_of opening l) o ≡ leaves (outline_in (stmts_of l) (outline_opening opening (lands label o)))
 whole label (opening_loop d) l o = refl
+whole label (opening_while k e) l o = refl
 whole label (branches arms (Some t)) l o = arms-more arms t (stmts_of l) (lands label o)
 whole label (branches arms None) l o = refl
 
@@ -56,6 +58,7 @@ left-outline a xs p =
 pub next-outline : (opening : OpeningTree) (l : List StmtTree) (test : Option ExprTree) (o : Outline) → IsOpenIf opening
     → outline_opening (branches (close_arm opening l) test) o ≡ begins (leaves (outline_in (stmts_of l) (outline_opening opening o)))
 next-outline (opening_loop d) l test o h = absurd h
+next-outline (opening_while k e) l test o h = absurd h
 next-outline (branches arms None) l test o h = absurd h
 next-outline (branches arms (Some t)) l test o h = ap begins (arms-more arms t (stmts_of l) o)
 

@@ -1,11 +1,10 @@
 -- What is written of statements leaves no block open and meets no fault of blocks.
-use Rattle.std.proofs.Common.{◌≡◌, ℕ, suc, ◌+◌, Bool, true, false, List, [], ◌∷◌, ◌++◌, length, refl, sym, ap, ◌∙◌, subst}
+use Rattle.std.proofs.Common.{◌≡◌, ℕ, ◌+◌, Bool, true, false, List, [], ◌∷◌, length, refl, sym, ap, ◌∙◌, subst}
 use Rattle.std.specs.Prelude.{Option, Some, None, ◌&&◌, not, nat_le, if◌then◌else◌}
 use Rattle.f77_ast.specs.declared.places.Part.{Part}
 use Rattle.f77_ast.specs.declared.places.Part.TheVariants as parts
-use Rattle.f77_ast.specs.Trees.{ExprTree, StmtTree, stmt, WhatTree, assign, do_loop, call, goto, continue, return, stop, print, read, arm, ArmTrees, no_arms, more_arms, ElseTree, no_else, otherwise, loop, StmtTrees, no_stmts, more_stmts}
-use Rattle.f77_ast.specs.Trees as trees
-use Rattle.f77_statements.specs.Phrases.{PhraseTree, simple, block_if, else_if, else_part, end_do, end_if}
+use Rattle.f77_ast.specs.Trees.{ExprTree, StmtTree, stmt, WhatTree}
+use Rattle.f77_statements.specs.Phrases.{simple, else_if, else_part, end_do, end_if}
 use Rattle.f77_structure.specs.declared.mark.Action.{Action}
 use Rattle.f77_structure.specs.declared.mark.Role.{Role}
 use Rattle.f77_structure.specs.declared.mark.Role.TheVariants as roles
@@ -20,12 +19,12 @@ use Rattle.f77_structure.specs.declared.blocks.Blocks.{Blocks}
 use Rattle.fx_lists.specs.Refusals.{refuse_if}
 use Rattle.f77_structure.specs.Lists.{first_of}
 use Rattle.f77_structure.specs.Opens.{ends_at, can_spoil}
-use Rattle.f77_structure.specs.Blocks.{leave_innermost, left_one, ended_by, opened, push_block, enter_block, add_landing, ended_at, parse_executable, keep_jump}
-use Rattle.f77_structure.specs.Terminals.{spoiled, spoiled_run, ends_one, spoil, spoil_part, is_forbidden, is_part, spoiled_by}
+use Rattle.f77_structure.specs.Blocks.{leave_innermost, left_one, ended_by, opened, enter_block, add_landing, parse_executable, keep_jump}
+use Rattle.f77_structure.specs.Terminals.{ends_one, spoil, spoil_part, is_forbidden, is_part, spoiled_by}
 use Rattle.f77_structure.specs.Steps.{by_role, parse_statement}
 use Rattle.f77_parser.specs.Roles.{role_of, action_of}
-use Rattle.roundtrip_programs.specs.ModuleTexts.Cards.{Card, card, cards_of, cards_by, part_cards, else_cards, cards_in, within}
-use Rattle.roundtrip_programs.specs.ModuleTexts.Shallow.{HasRoom, IsShallow, ShallowBelow, ShallowArms, ShallowElse, AreShallow}
+use Rattle.roundtrip_programs.specs.ModuleTexts.Cards.{Card, card, within}
+use Rattle.roundtrip_programs.specs.ModuleTexts.Shallow.{HasRoom}
 use Rattle.roundtrip_programs.proofs.ModuleTexts.Calm.{jumped-stack, jumped-found, landed-stack, landed-found, run-same as run-stays}
 
 -- a written statement at a place, at the line that this gives the place

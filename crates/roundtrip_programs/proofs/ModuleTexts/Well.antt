@@ -1,7 +1,6 @@
 -- A module without a fault is numbered in the order of its text.
-use Rattle.std.proofs.Common.{◌≡◌, ℕ, ◌+◌, List, [], ◌∷◌, ◌++◌, refl, sym, ap, ◌∙◌, subst}
+use Rattle.std.proofs.Common.{◌≡◌, ℕ, ◌+◌, List, [], ◌∷◌, ◌++◌, refl, sym, ap, ◌∙◌}
 use Rattle.std.specs.Prelude.{Option, Some, None}
-use Rattle.f77_ast.specs.PlainStmt.{stmts_of}
 use Rattle.f77_statements.specs.Phrases.{PhraseTree, end_module}
 use Rattle.f77_structure.specs.declared.mark.Role.TheVariants as roles
 use Rattle.f77_structure.specs.declared.blocks.Blocks.{Blocks}
@@ -9,13 +8,11 @@ use Rattle.f77_structure.specs.Blocks.{parse_executable}
 use Rattle.f77_structure.specs.Steps.{by_role, parse_statement, all_stepped, nothing_open}
 use Rattle.f77_parser.specs.Roles.{role_of}
 use Rattle.f77_parser.specs.Statements.{StatementTree, mark_of, marks_of}
-use Rattle.f77_parser.specs.SoFar.{AroundTree, SoFar, add_spot}
-use Rattle.f77_parser.specs.Building.{add_continue, add_phrase, add_statement, add_all, no_statements, build_module}
+use Rattle.f77_parser.specs.SoFar.{SoFar, add_spot}
+use Rattle.f77_parser.specs.Building.{add_continue, add_phrase, add_statement, add_all, no_statements}
 use Rattle.roundtrip_programs.specs.Statements.Formed.{Each}
-use Rattle.roundtrip_programs.specs.ModuleTexts.Numbered.{AreNumbered}
-use Rattle.roundtrip_programs.specs.ModuleTexts.ModuleLaws.{IsStatement, BuiltWell}
-use Rattle.roundtrip_programs.proofs.ModuleTexts.Steady.{step-calm, all-found, no-fault}
-use Rattle.roundtrip_programs.proofs.ModuleTexts.Counting.{start_of}
+use Rattle.roundtrip_programs.specs.ModuleTexts.ModuleLaws.{IsStatement}
+use Rattle.roundtrip_programs.proofs.ModuleTexts.Steady.{step-calm, all-found}
 use Rattle.roundtrip_programs.proofs.ModuleTexts.Counted.{Counts, phrase-counts}
 use Rattle.roundtrip_programs.proofs.ModuleTexts.Matched.{Matches, on-stack, stood-matched, continued-matched, module-closed, phrase-matched}
 
@@ -69,14 +66,4 @@ all-closed (x ∷ begun) s place p b e i g h =
     (one-goes x place p b i.first g (all-found (place + 1) (marks_of (begun ++ s ∷ [])) next h)) h
 
 pub nothing-goes : Goes no_statements nothing_open
-nothing-goes = record { matched = tt; counts = record { heading = record { alone = refl; unnamed = refl }; around = tt; list = tt; count = refl } }
-
-pub built_well : BuiltWell
-unfolding build_module
-built_well closing begun s e i h =
-    let ss = begun ++ s ∷ [] in
-    let f = (no-fault (marks_of ss) h).2 in
-    let g = all-go ss 0 no_statements nothing_open i nothing-goes f in
-    let p = add_all ss no_statements in
-    let P : List AroundTree → Type 0 = λ xs. AreNumbered (start_of xs) (stmts_of p.list) in
-    record { title = g.counts.heading; body = subst P (all-closed begun s 0 no_statements nothing_open e i nothing-goes f) g.counts.list; no_function = refl; no_references = refl; no_whiles = refl }
+nothing-goes = record { matched = tt; counts = record { heading = record { title = record { alone = refl; unnamed = refl }; function = tt }; around = tt; list = tt; count = refl } }

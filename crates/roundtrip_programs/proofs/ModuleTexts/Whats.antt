@@ -1,7 +1,7 @@
 -- What is written of an executable statement stands no deeper than what was read.
 use Rattle.std.proofs.Common.{◌≡◌, ℕ, ◌+◌, List, [], ◌∷◌, ◌++◌, length, refl, ap, subst, sym, ◌∙◌, append_assoc, Option, Some, None, Bool, true, false, if◌then◌else◌, decimal}
 use Rattle.std.specs.Prelude.{codes, nat_le, ◌&&◌, option_map}
-use Rattle.f77_ast.specs.Trees.{ExprTree, print, read}
+use Rattle.f77_ast.specs.Trees.{ExprTree, element, no_exprs, print, read}
 use Rattle.f77_ast.specs.Plain.{exprs_of}
 use Rattle.f77_structure.specs.Depth.{is_deep_from}
 use Rattle.f77_exprs.specs.Words.{before, after}
@@ -11,7 +11,7 @@ use Rattle.f77_exprs.specs.Grammar.{expression, variable}
 use Rattle.f77_forms.specs.declared.form.FormId.{FormId}
 use Rattle.f77_forms.specs.declared.form.FormId.TheVariants as forms
 use Rattle.f77_statements.specs.Lists.{items_left, maybe_in_parentheses, maybe_after_comma}
-use Rattle.f77_statements.specs.Executables.{assignment, call_statement, goto_statement, continue_statement, return_statement, five_digits, message, stop_text, stop_statement, print_statement, write_list, write_statement, read_listed, read_left, read_statement}
+use Rattle.f77_statements.specs.Executables.{at_end, empty_call, or_other, right_side, assignment, call_statement, goto_statement, continue_statement, return_statement, five_digits, message, stop_text, stop_statement, print_statement, write_list, write_statement, read_listed, read_left, read_statement}
 use Rattle.f77_statements.specs.Statements.{what_by}
 use Rattle.f77_printer.specs.ExprText.{expr_text, doubled}
 use Rattle.f77_printer.specs.StatementText.{actuals_text, message_text, what_text}
@@ -19,19 +19,41 @@ use Rattle.roundtrip_programs.specs.Statements.Formed.{Each}
 use Rattle.roundtrip_programs.proofs.Statements.Names.{before-append}
 use Rattle.roundtrip_programs.proofs.Statements.StopFormed.{Splits, constant_splits}
 use Rattle.roundtrip_programs.proofs.Statements.TypedFormed.{splits}
-use Rattle.roundtrip_programs.proofs.ModuleTexts.Levels.{at, IsShallow, Leads, join, plain, opened, closes, closed}
+use Rattle.roundtrip_programs.proofs.ModuleTexts.Levels.{at, IsShallow, Leads, join, plain, opens, opened, closes, closed}
 use Rattle.roundtrip_programs.proofs.ModuleTexts.Quoted.{constant-leads, past_constant}
 use Rattle.roundtrip_programs.proofs.ModuleTexts.Readers.{Within, Even, Level, split_shallow, then_read, then_word, else_word}
 use Rattle.roundtrip_programs.proofs.ModuleTexts.Names.{left_shallow, before-leads, digits_left, name-even, label-even}
 use Rattle.roundtrip_programs.proofs.ModuleTexts.Lists.{items-leads, exprs-leads, end_even, items_left-even, Wrapped, maybe_enclosed-even, maybe_listed-even}
 use Rattle.roundtrip_programs.proofs.ModuleTexts.Exprs.{expression_even, variable_even}
 
+-- ---- the right side of an assignment
+
+end-within : {A : Type 0} (a : A) (t : State) (rest : List ℕ) (n : ℕ) (V : A → Type 0) → V a → IsShallow n t.rest → Within (at_end a t rest) n V
+end-within a t [] n V v h = (v, h)
+end-within a t (c ∷ cs) n V v h = tt
+
+empty-even : Even empty_call (Level expr_text)
+unfolding empty_call
+empty-even n s h =
+    then_read name_at (Level (λ x. x)) _ s n n (Level expr_text n) name-even h
+    (λ f x i. then_word (codes "()") f.1 _ n n (Level expr_text n) i
+    (λ r j. end-within (element f.0 no_exprs) (record f.1 { rest = r }) r n (Level expr_text n)
+    (join (join (join x (opens n (41 ∷ r) j)) (plain (n + 1) [] refl)) (closes n)) (closed n r (opened n (41 ∷ r) j))))
+
+either-within : {A : Type 0} (o p : Option (A × State)) (n : ℕ) (V : A → Type 0) → Within o n V → Within p n V → Within (or_other o p) n V
+either-within None p n V h e = e
+either-within (Some r) p n V h e = h
+
+right-even : Even right_side (Level expr_text)
+unfolding right_side
+right-even n s h = either-within (expression s) (empty_call s) n (Level expr_text n) (expression_even n s h) (empty-even n s h)
+
 assignment-even : Even assignment (Level what_text)
 unfolding assignment
 assignment-even n s h =
     then_read variable (Level expr_text) _ s n n (Level what_text n) variable_even h
     (λ v x i. then_word (codes "=") v.1 _ n n (Level what_text n) i
-    (λ r j. then_read expression (Level expr_text) _ (record v.1 { rest = r }) n n (Level what_text n) expression_even j
+    (λ r j. then_read right_side (Level expr_text) _ (record v.1 { rest = r }) n n (Level what_text n) right-even j
     (λ e y k. (join (join x (plain n (codes " = ") refl)) y, k))))
 
 actuals-leads : (n : ℕ) (xs : List ExprTree) → Wrapped (Level expr_text) n xs → Leads n n (actuals_text (exprs_of xs))

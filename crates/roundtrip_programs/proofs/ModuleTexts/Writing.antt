@@ -3,9 +3,10 @@ use Rattle.std.proofs.Common.{◌≡◌, ℕ, ◌+◌, ◌≤◌, Bool, true, fa
 use Rattle.std.specs.Prelude.{Option, Some, None, ◌&&◌, ◌||◌, not, nat_le, nat_lt, if◌then◌else◌}
 use Rattle.std.proofs.lemmas.Bool.Decides.{nat_tests}
 use Rattle.f77_ast.specs.declared.places.Part.TheVariants as parts
-use Rattle.f77_ast.specs.DeclTrees.{DeclTree, ModuleTree}
+use Rattle.f77_ast.specs.DeclTrees.{DeclTree}
 use Rattle.f77_ast.specs.PlainStmt.{stmts_of}
-use Rattle.f77_statements.specs.Phrases.{program, subroutine, specification, end_module}
+use Rattle.f77_statements.specs.Phrases.{program, specification, end_module}
+use Rattle.f77_ast.specs.declared.module.FunctionForm.{FunctionForm}
 use Rattle.fx_lists.specs.declared.code.Code.{Code}
 use Rattle.fx_lists.specs.declared.code.Code.TheVariants.{StrayPart, LabelTwice, TooManyStatements, TooDeep}
 use Rattle.fx_lists.specs.declared.refusal.Refusal.{Refusal}
@@ -21,13 +22,16 @@ use Rattle.f77_structure.specs.Checks.{fault_of}
 use Rattle.f77_parser.specs.Roles.{role_of}
 use Rattle.f77_parser.specs.Statements.{StatementTree, marks_of}
 use Rattle.f77_parser.specs.SoFar.{SoFar}
-use Rattle.f77_parser.specs.Building.{add_all, no_statements, build_module}
+use Rattle.f77_parser.specs.Building.{add_all, no_statements, written_module, build_module}
+use Rattle.f77_parser.specs.Elaborated.{meant_in}
 use Rattle.roundtrip_programs.specs.Statements.Formed.{Each}
-use Rattle.roundtrip_programs.specs.ModuleTexts.Cards.{Card, card, cards_in, title_cards, decl_cards, statements_of}
+use Rattle.roundtrip_programs.specs.ModuleTexts.Cards.{Card, card, cards_in, head_phrase, title_cards, decl_cards, written_cards}
 use Rattle.roundtrip_programs.specs.ModuleTexts.ModuleLaws.{Labelled, of_statement, of_card, IsStatement}
 use Rattle.roundtrip_programs.proofs.ModuleTexts.Steady.{no-fault}
-use Rattle.roundtrip_programs.proofs.ModuleTexts.Kept.{Each-append}
+use Rattle.roundtrip_programs.proofs.ModuleTexts.Each.{Each-append}
 use Rattle.roundtrip_programs.proofs.ModuleTexts.Well.{nothing-goes, all-closed}
+use Rattle.roundtrip_programs.proofs.ModuleTexts.FoldedLaws.{cards_back}
+use Rattle.roundtrip_programs.proofs.ModuleTexts.Built.{told_of, all-told, written_well}
 use Rattle.roundtrip_programs.specs.ModuleTexts.OrderLaws.{IsFlat, OrderAgain}
 use Rattle.roundtrip_programs.proofs.ModuleTexts.Tally.{listed, label_at, labels_of, count_of, IsQuiet, StandsBehind, IsBehind, labels-append, count-append, AreNew}
 use Rattle.roundtrip_programs.proofs.ModuleTexts.Standing.{around_cards}
@@ -164,24 +168,28 @@ decls-clear place [] rest main f o b ns = f o b ns
 decls-clear place (d ∷ ds) rest main f o b [] = b.found
 decls-clear place (d ∷ ds) rest main f o b (n ∷ ns) = decls-clear (place + 1) ds rest main f _ (specified n place d main o b) ns
 
-title-clear : (m : ModuleTree) (main titled : Bool) (rest : List Card) → Follows main rest
-    → Clear ((if titled || not main then card parts.Title None (if main then program m.name else subroutine m.name m.dummies) ∷ [] else []) ++ rest) nothing_ordered
+title-clear : (main titled : Bool) (function : Option FunctionForm) (name : List ℕ) (dummies : List (List ℕ)) (rest : List Card) → Follows main rest
+    → Clear ((if titled || not main then card parts.Title None (if main then program name else head_phrase function name dummies) ∷ [] else []) ++ rest) nothing_ordered
 unfolding check_next refuse_if
-title-clear m true true rest f [] = refl
-title-clear m true true rest f (n ∷ ns) = f _ (record { same = refl; count = refl; labels = refl; found = refl }) ns
-title-clear m true false rest f ns = f nothing_ordered (record { same = refl; count = refl; labels = refl; found = refl }) ns
-title-clear m false true rest f [] = refl
-title-clear m false true rest f (n ∷ ns) = f _ (record { same = refl; count = refl; labels = refl; found = refl }) ns
-title-clear m false false rest f [] = refl
-title-clear m false false rest f (n ∷ ns) = f _ (record { same = refl; count = refl; labels = refl; found = refl }) ns
+title-clear true true function name dummies rest f [] = refl
+title-clear true true function name dummies rest f (n ∷ ns) = f _ (record { same = refl; count = refl; labels = refl; found = refl }) ns
+title-clear true false function name dummies rest f ns = f nothing_ordered (record { same = refl; count = refl; labels = refl; found = refl }) ns
+title-clear false true None name dummies rest f [] = refl
+title-clear false true None name dummies rest f (n ∷ ns) = f _ (record { same = refl; count = refl; labels = refl; found = refl }) ns
+title-clear false false None name dummies rest f [] = refl
+title-clear false false None name dummies rest f (n ∷ ns) = f _ (record { same = refl; count = refl; labels = refl; found = refl }) ns
+title-clear false true (Some form) name dummies rest f [] = refl
+title-clear false true (Some form) name dummies rest f (n ∷ ns) = f _ (record { same = refl; count = refl; labels = refl; found = refl }) ns
+title-clear false false (Some form) name dummies rest f [] = refl
+title-clear false false (Some form) name dummies rest f (n ∷ ns) = f _ (record { same = refl; count = refl; labels = refl; found = refl }) ns
 
 -- ---- whole modules
 
 -- the executable statements, and END behind them
-body-follows : (p : SoFar) (o : Order) → p.around ≡ [] → Orders p o → Follows p.heading.main (cards_in (stmts_of p.list) ++ card parts.End None end_module ∷ [])
-body-follows p o e r at b =
-    let body = cards_in (stmts_of p.list) in let end = card parts.End None end_module ∷ [] in
-    let here = ap (λ xs. around_cards xs ++ body) e in
+body-follows : (tells : ℕ → Bool) (p : SoFar) (o : Order) → p.around ≡ [] → Orders tells p o → Follows p.heading.main (cards_in tells (stmts_of p.list) ++ card parts.End None end_module ∷ [])
+body-follows tells p o e r at b =
+    let body = cards_in tells (stmts_of p.list) in let end = card parts.End None end_module ∷ [] in
+    let here = ap (λ xs. around_cards tells xs ++ body) e in
     let labels : labels_of (body ++ end) ≡ o.labels = labels-append body end ∙ append-nil (labels_of body) ∙ sym (ap labels_of here) ∙ r.labels in
     let count : count_of (body ++ end) ≡ o.count = count-append body end ∙ (let z : count_of body + 0 ≡ count_of body = omega arith in z) ∙ sym (ap count_of here) ∙ r.count in
     let few : o.count ≤ 4096 = r.few in
@@ -198,35 +206,46 @@ body-follows p o e r at b =
       found = b.found;
     })
 
--- a module that is read has at most 4,096 statements
+-- a module as it is written has at most 4,096 statements
 pub few_stand : (closing : List (List ℕ)) (begun : List StatementTree) (s : StatementTree) → s.phrase ≡ end_module → Each IsStatement (begun ++ s ∷ []) → fault_of (marks_of (begun ++ s ∷ [])) ≡ None
-    → count_of (cards_in (build_module closing (begun ++ s ∷ [])).module_read.body) ≤ 4096
-unfolding build_module
+    → (let w = (written_module closing (begun ++ s ∷ [])).module_read in count_of (cards_in (meant_in w).is_while w.body) ≤ 4096)
+unfolding written_module
 few_stand closing begun s e i h =
     let read = begun ++ s ∷ [] in
+    let tells = told_of read in
     let p = add_all read no_statements in
-    let o = all_ordered (marks_of read) nothing_ordered in
     let none = no-fault (marks_of read) h in
-    let r = all-ordered read 0 no_statements nothing_open nothing_ordered i nothing-goes none.2 nothing-ordered none.0 in
+    let r = all-ordered tells read no_statements nothing_ordered i (all-told begun s i h) (nothing-ordered tells) none.0 in
     let closed = all-closed begun s 0 no_statements nothing_open e i nothing-goes none.2 in
-    let body = cards_in (stmts_of p.list) in
-    let here = ap (λ xs. around_cards xs ++ body) closed in
+    let body = cards_in tells (stmts_of p.list) in
+    let here = ap (λ xs. around_cards tells xs ++ body) closed in
     let Few : ℕ → Type 0 = λ n. n ≤ 4096 in
     subst Few (sym (sym (ap count_of here) ∙ r.count)) r.few
 
-pub order_again : OrderAgain
-unfolding build_module statements_of
-order_again closing begun s ss e i h written flat =
+-- of the module as it is written
+written-clear : (closing : List (List ℕ)) (begun : List StatementTree) (s : StatementTree) → s.phrase ≡ end_module → Each IsStatement (begun ++ s ∷ []) → fault_of (marks_of (begun ++ s ∷ [])) ≡ None
+    → Clear (written_cards (written_module closing (begun ++ s ∷ [])).module_read) nothing_ordered
+unfolding written_module written_cards
+written-clear closing begun s e i h ns =
     let read = begun ++ s ∷ [] in
+    let tells = told_of read in
     let p = add_all read no_statements in
     let o = all_ordered (marks_of read) nothing_ordered in
     let none = no-fault (marks_of read) h in
-    let r = all-ordered read 0 no_statements nothing_open nothing_ordered i nothing-goes none.2 nothing-ordered none.0 in
+    let r = all-ordered tells read no_statements nothing_ordered i (all-told begun s i h) (nothing-ordered tells) none.0 in
     let closed = all-closed begun s 0 no_statements nothing_open e i nothing-goes none.2 in
-    let m = (build_module closing read).module_read in
-    let title = title_cards m in let decls = decl_cards 0 p.decls in let body = cards_in (stmts_of p.list) in let end = card parts.End None end_module ∷ [] in
+    let m = (written_module closing read).module_read in
+    let title = title_cards m in let decls = decl_cards 0 p.decls in let body = cards_in tells (stmts_of p.list) in let end = card parts.End None end_module ∷ [] in
     let rest = decls ++ (body ++ end) in
     let all : title ++ decls ++ body ++ end ≡ title ++ rest = simp append_assoc in
+    ap (λ cs. (all_ordered (marks_at ns (map of_card cs)) nothing_ordered).found) all
+    ∙ title-clear p.heading.main p.heading.titled p.heading.function p.heading.name p.heading.dummies rest (decls-clear 0 p.decls (body ++ end) p.heading.main (body-follows tells p o closed r)) ns
+
+pub order_again : OrderAgain
+unfolding build_module
+order_again closing begun s ss e i h written flat =
+    let read = begun ++ s ∷ [] in
+    let w = (written_module closing read).module_read in
     ap (λ ms. (all_ordered ms nothing_ordered).found)
-    (marks-same ss flat ∙ ap (marks_at (lines_in ss)) (written ∙ ap (map of_card) all))
-    ∙ title-clear m p.heading.main p.heading.titled rest (decls-clear 0 p.decls (body ++ end) p.heading.main (body-follows p o closed r)) (lines_in ss)
+    (marks-same ss flat ∙ ap (marks_at (lines_in ss)) (written ∙ ap (map of_card) (cards_back w (written_well closing begun s e i h))))
+    ∙ written-clear closing begun s e i h (lines_in ss)

@@ -3,6 +3,8 @@ use Rattle.std.proofs.Common.{◌≡◌, ℕ, List, [], ◌∷◌, refl, ap, sym
 use Rattle.std.specs.Prelude.{Option, Some, None, option_map, Result, Ok, Err, codes, nat_eq, bytes_eq}
 use Rattle.std.proofs.lemmas.Bool.{eqb-true}
 use Rattle.std.proofs.lemmas.Slice.Eq.{bytes_eq-Decides}
+use Rattle.f77_ast.specs.declared.module.FunctionForm.{FunctionForm}
+use Rattle.f77_ast.specs.declared.module.FunctionForm.TheVariants.{Plain, Integer, Logical}
 use Rattle.f77_ast.specs.Trees.{ExprTree, WhatTree}
 use Rattle.f77_ast.specs.DeclTrees.{DeclTree}
 use Rattle.f77_exprs.specs.declared.at.Notes.{Notes}
@@ -15,12 +17,12 @@ use Rattle.f77_forms.specs.declared.form.FormId.TheVariants as forms
 use Rattle.f77_statements.specs.declared.refusal.Cause.{Cause}
 use Rattle.f77_statements.specs.declared.refusal.Cause.TheVariants.{RealConstant, NumberTooBig, NameTooLong}
 use Rattle.f77_statements.specs.Causes.{finished, verdict}
-use Rattle.f77_statements.specs.Lists.{maybe_in_parentheses}
-use Rattle.f77_statements.specs.Phrases.{PhraseTree, program, subroutine, specification, simple, logical_if, block_if, else_if, else_part, end_if, do_head, end_do, end_module}
+use Rattle.f77_statements.specs.Lists.{in_parentheses, maybe_in_parentheses}
+use Rattle.f77_statements.specs.Phrases.{PhraseTree, program, subroutine, function, specification, simple, logical_if, block_if, else_if, else_part, end_if, do_head, while_head, end_do, end_module}
 use Rattle.f77_statements.specs.Specifications.{implicit_statement, integer_statement, logical_statement, dimension_statement, parameter_statement, common_statement, equivalence_statement, save_statement, data_statement}
 use Rattle.f77_statements.specs.Executables.{assignment, call_statement, goto_statement, continue_statement, return_statement, stop_statement, print_statement, write_statement, read_statement}
-use Rattle.f77_statements.specs.Statements.{program_statement, subroutine_statement, if_test, block_if_statement, else_if_statement, what_at, logical_if_statement, terminal, step, range, do_statement, alone, specified, simply, form_at, phrase_by, phrase_in, phrase_of}
-use Rattle.f77_parser.specs.Modules.{ends_module}
+use Rattle.f77_statements.specs.Statements.{program_statement, subroutine_statement, function_statement, while_statement, if_test, block_if_statement, else_if_statement, what_at, logical_if_statement, terminal, step, range, do_statement, alone, specified, simply, form_at, phrase_by, phrase_in, phrase_of}
+use Rattle.f77_parser.specs.Ends.{ends_module}
 
 -- ---- each other form
 
@@ -46,6 +48,14 @@ subroutine-inner s =
     seq (parse_word (codes "SUBROUTINE") s) (λ t. name_at t >>= λ n. maybe_in_parentheses name_at n.1 >>= λ ds. Some (subroutine n.0 ds.0, ds.1))
     (λ t. seq (name_at t) (λ n. maybe_in_parentheses name_at n.1 >>= λ ds. Some (subroutine n.0 ds.0, ds.1))
     (λ n. seq (maybe_in_parentheses name_at n.1) (λ ds. Some (subroutine n.0 ds.0, ds.1)) (λ ds. refl)))
+
+function-inner : (word : List ℕ) (form : FunctionForm) (s : State) → Reads (function_statement word form s)
+unfolding function_statement
+function-inner word form s =
+    seq (parse_word word s) (λ t. name_at t >>= λ n. parse_word (codes "(") n.1 >>= λ u. in_parentheses name_at u >>= λ ds. Some (function form n.0 ds.0, ds.1))
+    (λ t. seq (name_at t) (λ n. parse_word (codes "(") n.1 >>= λ u. in_parentheses name_at u >>= λ ds. Some (function form n.0 ds.0, ds.1))
+    (λ n. seq (parse_word (codes "(") n.1) (λ u. in_parentheses name_at u >>= λ ds. Some (function form n.0 ds.0, ds.1))
+    (λ u. seq (in_parentheses name_at u) (λ ds. Some (function form n.0 ds.0, ds.1)) (λ ds. refl))))
 
 block-inner : (s : State) → Reads (block_if_statement s)
 unfolding block_if_statement
@@ -82,6 +92,14 @@ do-inner : (s : State) → Reads (do_statement s)
 unfolding do_statement
 do-inner s =
     seq (parse_word (codes "DO") s) (λ t. terminal t >>= λ l. range l.0 l.1) (λ t. seq (terminal t) (λ l. range l.0 l.1) (λ l. range-inner l.0 l.1))
+
+while-inner : (s : State) → Reads (while_statement s)
+unfolding while_statement
+while-inner s =
+    seq (parse_word (codes "DO") s) (λ t. terminal t >>= λ l. parse_word (codes "WHILE(") l.1 >>= λ u. if_test u >>= λ e. Some (while_head l.0 e.0, e.1))
+    (λ t. seq (terminal t) (λ l. parse_word (codes "WHILE(") l.1 >>= λ u. if_test u >>= λ e. Some (while_head l.0 e.0, e.1))
+    (λ l. seq (parse_word (codes "WHILE(") l.1) (λ u. if_test u >>= λ e. Some (while_head l.0 e.0, e.1))
+    (λ u. seq (if_test u) (λ e. Some (while_head l.0 e.0, e.1)) (λ e. refl))))
 
 alone-inner : (w : List ℕ) (p : PhraseTree) → Inner p → (s : State) → Reads (alone w p s)
 unfolding alone
@@ -138,6 +156,9 @@ end-form body p h e = word-at (codes "END") body (end-at (after (codes "END") bo
 by-form : (form : FormId) (body : List ℕ) (p : PhraseTree) → verdict (phrase_by form (start body)) ≡ Ok p → OrEnd body p
 by-form forms.Program body p h = unless body p (inner-verdict (program_statement (start body)) p (program-inner (start body)) h)
 by-form forms.Subroutine body p h = unless body p (inner-verdict (subroutine_statement (start body)) p (subroutine-inner (start body)) h)
+by-form forms.Function body p h = unless body p (inner-verdict (function_statement (codes "FUNCTION") Plain (start body)) p (function-inner (codes "FUNCTION") Plain (start body)) h)
+by-form forms.IntegerFunction body p h = unless body p (inner-verdict (function_statement (codes "INTEGERFUNCTION") Integer (start body)) p (function-inner (codes "INTEGERFUNCTION") Integer (start body)) h)
+by-form forms.LogicalFunction body p h = unless body p (inner-verdict (function_statement (codes "LOGICALFUNCTION") Logical (start body)) p (function-inner (codes "LOGICALFUNCTION") Logical (start body)) h)
 by-form forms.Implicit body p h = unless body p (inner-verdict (specified implicit_statement (start body)) p (specified-inner implicit_statement (start body)) h)
 by-form forms.Integer body p h = unless body p (inner-verdict (specified integer_statement (start body)) p (specified-inner integer_statement (start body)) h)
 by-form forms.Logical body p h = unless body p (inner-verdict (specified logical_statement (start body)) p (specified-inner logical_statement (start body)) h)
@@ -154,6 +175,7 @@ by-form forms.ElseIf body p h = unless body p (inner-verdict (else_if_statement 
 by-form forms.Else body p h = unless body p (inner-verdict (alone (codes "ELSE") else_part (start body)) p (alone-inner (codes "ELSE") else_part refl (start body)) h)
 by-form forms.EndIf body p h = unless body p (inner-verdict (alone (codes "ENDIF") end_if (start body)) p (alone-inner (codes "ENDIF") end_if refl (start body)) h)
 by-form forms.Do body p h = unless body p (inner-verdict (do_statement (start body)) p (do-inner (start body)) h)
+by-form forms.DoWhile body p h = unless body p (inner-verdict (while_statement (start body)) p (while-inner (start body)) h)
 by-form forms.EndDo body p h = unless body p (inner-verdict (alone (codes "ENDDO") end_do (start body)) p (alone-inner (codes "ENDDO") end_do refl (start body)) h)
 by-form forms.Continue body p h = unless body p (inner-verdict (simply continue_statement (start body)) p (simply-inner continue_statement (start body)) h)
 by-form forms.Return body p h = unless body p (inner-verdict (simply return_statement (start body)) p (simply-inner return_statement (start body)) h)

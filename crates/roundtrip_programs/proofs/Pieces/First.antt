@@ -13,8 +13,11 @@ use Rattle.f77_statements.specs.Phrases.{PhraseTree}
 use Rattle.f77_statements.specs.Statements.{phrase_of}
 use Rattle.f77_structure.specs.Lists.{is_none_of}
 use Rattle.f77_parser.specs.Gives.{Refused, and_then}
-use Rattle.f77_parser.specs.Statements.{StatementTree, read_as, statement_of, all_read}
-use Rattle.f77_parser.specs.Modules.{ends_module, closing_at, module_read, modules_from, parse_of}
+use Rattle.f77_parser.specs.Statements.{StatementTree, read_as, statement_of}
+use Rattle.f77_parser.specs.Ends.{ends_module}
+use Rattle.f77_parser.specs.References.{empty_call_fault}
+use Rattle.roundtrip_programs.proofs.Assigned.{NoEnd as AreInner, read-well, well-read}
+use Rattle.f77_parser.specs.Modules.{statements_in, closing_at, module_read, modules_from, parse_of}
 use Rattle.fixed_form.specs.Pieces.{end_lines}
 use Rattle.roundtrip_programs.proofs.Pieces.Ends.{end-is, ends-read}
 use Rattle.roundtrip_programs.proofs.Pieces.Parsing.{AreRead, all-read, read-after}
@@ -123,22 +126,24 @@ read-lines text ls e f g =
 pub record Parsed (closing : List (List ℕ)) (ls : List Line) (ms : List ParsedTree) : Type 0 where
   pub own : List StatementTree
   pub read : AreRead ls own
+  pub calls : empty_call_fault own ≡ None
   pub made : modules_from closing [] [] own ≡ Ok ms
 
-parsed-by : (r : Result (List StatementTree) Refused) (closing : List (List ℕ)) (ls : List Line) (ms : List ParsedTree) → all_read [] ls ≡ r
+parsed-by : (r : Result (List StatementTree) Refused) (closing : List (List ℕ)) (ls : List Line) (ms : List ParsedTree) → statements_in ls ≡ r
     → and_then r (λ ss. modules_from closing [] [] ss) ≡ Ok ms → Parsed closing ls ms
 parsed-by (Ok ss) closing ls ms e h =
-    let a = read-after ls [] ss e in
-    record { own = a.own; read = a.read; made = ap (modules_from closing [] []) (sym a.is) ∙ h }
+    let w = read-well ls ss e in
+    let a = read-after ls [] ss w.all in
+    record { own = a.own; read = a.read; calls = ap empty_call_fault (sym a.is) ∙ w.calls; made = ap (modules_from closing [] []) (sym a.is) ∙ h }
 parsed-by (Err r) closing ls ms e h = cc
 
 pub parsed : (lines : Lines) (ms : List ParsedTree) → parse_of lines ≡ Ok ms → Parsed lines.closing lines.lines ms
 unfolding parse_of
-parsed lines ms h = parsed-by (all_read [] lines.lines) lines.closing lines.lines ms refl h
+parsed lines ms h = parsed-by (statements_in lines.lines) lines.closing lines.lines ms refl h
 
 pub parse-again : (lines : Lines) (ms : List ParsedTree) → Parsed lines.closing lines.lines ms → parse_of lines ≡ Ok ms
 unfolding parse_of
-parse-again lines ms p = ap (λ r. and_then r (λ ss. modules_from lines.closing [] [] ss)) (all-read lines.lines p.own [] p.read) ∙ p.made
+parse-again lines ms p = ap (λ r. and_then r (λ ss. modules_from lines.closing [] [] ss)) (well-read lines.lines p.own (all-read lines.lines p.own [] p.read) p.calls) ∙ p.made
 
 -- ---- statements in two parts
 
@@ -167,6 +172,11 @@ join-parts (x ∷ xs) ys (s ∷ fore) aft h g = record { first = h.first; others
 abbrev pub AllInner : List StatementTree → Type 0
 AllInner [] = Unit {0}
 AllInner (s ∷ ss) = record { first : ends_module s.phrase ≡ false; others : AllInner ss }
+
+-- the same
+pub all-inner : (ss : List StatementTree) → AllInner ss → AreInner ss
+all-inner [] h = tt
+all-inner (s ∷ ss) h = record { first = h.first; others = all-inner ss h.others }
 
 phrase-read : (l : Line) (r : Result PhraseTree Cause) (s : StatementTree) → read_as l r ≡ Ok s → r ≡ Ok s.phrase
 phrase-read l (Ok p) s h = let q : p ≡ s.phrase = cc in ap Ok q

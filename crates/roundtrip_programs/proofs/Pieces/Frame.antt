@@ -5,9 +5,9 @@ use Rattle.f77_ast.specs.declared.places.Part.{Part}
 use Rattle.f77_ast.specs.declared.places.Part.TheVariants as parts
 use Rattle.f77_ast.specs.declared.places.Spot.{Spot}
 use Rattle.f77_ast.specs.Trees.{ExprTree, WhatTree, continue}
-use Rattle.f77_statements.specs.Phrases.{PhraseTree, program, subroutine, specification, simple, logical_if, block_if, else_if, else_part, end_if, do_head, end_do, end_module}
+use Rattle.f77_statements.specs.Phrases.{PhraseTree, program, subroutine, function, specification, simple, logical_if, block_if, else_if, else_part, end_if, do_head, while_head, end_do, end_module}
 use Rattle.f77_parser.specs.Statements.{StatementTree}
-use Rattle.f77_parser.specs.SoFar.{OpeningTree, opening_loop, branches, AroundTree, SoFar, spot, add_spot, add_executable, add_logical_if, is_loop_to, leave_block, leave_loops, end_loops, end_loops_at, open_block, close_innermost, close_block}
+use Rattle.f77_parser.specs.SoFar.{OpeningTree, opening_loop, opening_while, branches, AroundTree, SoFar, spot, add_spot, add_executable, add_logical_if, is_loop_to, leave_block, leave_loops, end_loops, end_loops_at, open_block, add_while, close_innermost, close_block}
 use Rattle.f77_parser.specs.Building.{divide_innermost, add_continue, close_if, close_do, close_module, add_phrase, add_statement, add_all}
 use Rattle.roundtrip_programs.proofs.Pieces.Structure.{choice-through}
 
@@ -71,10 +71,16 @@ close-module-behind : (qs : List Spot) (first : ℕ) (label : Option ℕ) (comme
 close-module-behind qs first None comments p = spot-behind qs _ first comments _
 close-module-behind qs first (Some l) comments p = ap (add_spot parts.End first []) (continue-behind qs first l comments p) ∙ spot-behind qs _ first [] _
 
+while-behind : (qs : List Spot) (first : ℕ) (label : Option ℕ) (comments : List (List ℕ)) (l : Option ℕ) (e : ExprTree) (p : SoFar)
+    → open_block first label comments (opening_while l e) (add_while (behind qs p)) ≡ behind qs (open_block first label comments (opening_while l e) (add_while p))
+unfolding add_while
+while-behind qs first label comments l e p = open-behind qs first label comments (opening_while l e) (add_while p)
+
 phrase-behind : (qs : List Spot) (first : ℕ) (label : Option ℕ) (comments : List (List ℕ)) (phrase : PhraseTree) (p : SoFar)
     → add_phrase first label comments phrase (behind qs p) ≡ behind qs (add_phrase first label comments phrase p)
 phrase-behind qs first label comments (program n) p = spot-behind qs _ first comments _
 phrase-behind qs first label comments (subroutine n ds) p = spot-behind qs _ first comments _
+phrase-behind qs first label comments (function form n ds) p = spot-behind qs _ first comments _
 phrase-behind qs first label comments (specification d) p = spot-behind qs _ first comments _
 phrase-behind qs first label comments (simple w) p =
     ap (end_loops_at label) (executable-behind qs first label comments w p) ∙ end-loops-behind qs label (add_executable first label comments w p)
@@ -85,6 +91,7 @@ phrase-behind qs first label comments (else_if e) p = divided-behind qs p.around
 phrase-behind qs first label comments else_part p = divided-behind qs p.around first comments None p
 phrase-behind qs first label comments end_if p = close-if-behind qs first label comments p
 phrase-behind qs first label comments (do_head d) p = open-behind qs first label comments (opening_loop d) p
+phrase-behind qs first label comments (while_head l e) p = while-behind qs first label comments l e p
 phrase-behind qs first label comments end_do p = close-do-behind qs first label comments p
 phrase-behind qs first label comments end_module p = close-module-behind qs first label comments p
 

@@ -9,7 +9,7 @@ use Rattle.fx_lists.specs.declared.code.Code.TheVariants.{BadTerminal}
 use Rattle.fx_lists.specs.declared.refusal.Refusal.{Refusal}
 use Rattle.fx_lists.specs.Refusals.{refuse_if}
 use Rattle.f77_statements.specs.declared.refusal.Cause.{Cause}
-use Rattle.f77_statements.specs.Phrases.{PhraseTree, program, subroutine, specification, simple, logical_if, block_if, else_if, else_part, end_if, do_head, end_do, end_module}
+use Rattle.f77_statements.specs.Phrases.{PhraseTree, program, subroutine, function, specification, simple, logical_if, block_if, else_if, else_part, end_if, do_head, while_head, end_do, end_module}
 use Rattle.f77_statements.specs.Statements.{phrase_of}
 use Rattle.f77_structure.specs.declared.mark.Mark.{Mark}
 use Rattle.f77_structure.specs.Lists.{is_none_of}
@@ -20,10 +20,13 @@ use Rattle.f77_structure.specs.declared.mark.Role.{Role}
 use Rattle.f77_structure.specs.declared.mark.Role.TheVariants as roles
 use Rattle.f77_parser.specs.Gives.{Refused, and_then}
 use Rattle.f77_parser.specs.Statements.{StatementTree, read_as, statement_of, mark_of, marks_of}
-use Rattle.f77_parser.specs.SoFar.{SoFar, spot, add_spot, add_executable, add_logical_if, open_block}
-use Rattle.f77_parser.specs.Building.{add_phrase, add_all, no_statements, whole, build_module}
-use Rattle.f77_parser.specs.Modules.{ends_module, closing_at, unless_faulty, module_read, modules_from}
+use Rattle.f77_parser.specs.SoFar.{SoFar, spot, add_spot, add_executable, add_logical_if, open_block, add_while}
+use Rattle.f77_parser.specs.Building.{add_phrase, add_all, no_statements, whole, elaborated_parsed, written_module, build_module}
+use Rattle.f77_parser.specs.Ends.{ends_module}
+use Rattle.f77_parser.specs.Modules.{module_fault, closing_at, unless_faulty, module_read, modules_from}
 use Rattle.roundtrip_programs.specs.Pieces.Joined.{after_comments, unclosed}
+use Rattle.f77_parser.specs.References.{reference_fault}
+use Rattle.roundtrip_programs.proofs.Assigned.{no-fault}
 use Rattle.roundtrip_programs.proofs.Pieces.Parsing.{result_map}
 use Rattle.roundtrip_programs.proofs.Pieces.First.{prefixed, modules-prefixed}
 use Rattle.roundtrip_programs.proofs.Pieces.JoinedLines.{after_line}
@@ -45,6 +48,7 @@ read-after-comments comments l s h = read-by comments l (phrase_of l.body) s h
 abbrev Opens : PhraseTree → Type 0
 Opens (program n) = Unit {0}
 Opens (subroutine n ds) = Unit {0}
+Opens (function form n ds) = Unit {0}
 Opens (specification d) = Unit {0}
 Opens (simple w) = Unit {0}
 Opens (logical_if e w) = Unit {0}
@@ -53,6 +57,7 @@ Opens (else_if e) = ⊥
 Opens else_part = ⊥
 Opens end_if = ⊥
 Opens (do_head d) = Unit {0}
+Opens (while_head l e) = Unit {0}
 Opens end_do = ⊥
 Opens end_module = Unit {0}
 
@@ -65,9 +70,10 @@ record FirstSpot (first : ℕ) (label : Option ℕ) (phrase : PhraseTree) : Type
       ≡ behind (spot part first comments ∷ []) (without_first (add_phrase first label [] phrase no_statements))
 
 first-spot : (first : ℕ) (label : Option ℕ) (phrase : PhraseTree) → Opens phrase → FirstSpot first label phrase
-unfolding add_spot add_executable add_logical_if open_block
+unfolding add_spot add_executable add_logical_if open_block add_while
 first-spot first label (program n) h = record { part = parts.Title; is = λ c. refl }
 first-spot first label (subroutine n ds) h = record { part = parts.Title; is = λ c. refl }
+first-spot first label (function form n ds) h = record { part = parts.Title; is = λ c. refl }
 first-spot first label (specification d) h = record { part = parts.Decl 0; is = λ c. refl }
 first-spot first None (simple w) h = record { part = parts.Stmt 1; is = λ c. refl }
 first-spot first (Some l) (simple w) h = record { part = parts.Stmt 1; is = λ c. refl }
@@ -78,19 +84,20 @@ first-spot first label (else_if e) h = absurd h
 first-spot first label else_part h = absurd h
 first-spot first label end_if h = absurd h
 first-spot first label (do_head d) h = record { part = parts.Stmt 1; is = λ c. refl }
+first-spot first label (while_head l e) h = record { part = parts.Stmt 1; is = λ c. refl }
 first-spot first label end_do h = absurd h
 first-spot first None end_module h = record { part = parts.End; is = λ c. refl }
 first-spot first (Some l) end_module h = record { part = parts.Stmt 1; is = λ c. refl }
 
 built-after : (comments closing : List (List ℕ)) (s : StatementTree) (ss : List StatementTree) → Opens s.phrase
     → build_module closing (after_statement comments s ∷ ss) ≡ after_comments comments (build_module closing (s ∷ ss))
-unfolding build_module
+unfolding build_module written_module
 built-after comments closing s ss h =
     let f = first-spot s.first s.label s.phrase h in
     let rest : SoFar = without_first (add_phrase s.first s.label [] s.phrase no_statements) in
     let at : (c : List (List ℕ)) → add_all ss (add_phrase s.first s.label c s.phrase no_statements) ≡ behind (spot f.part s.first c ∷ []) (add_all ss rest) =
     λ c. ap (add_all ss) (f.is c) ∙ all-behind (spot f.part s.first c ∷ []) ss rest in
-    ap (whole closing) (at (comments ++ s.comments)) ∙ ap (λ p. after_comments comments (whole closing p)) (sym (at s.comments))
+    ap (λ p. elaborated_parsed (whole closing p)) (at (comments ++ s.comments)) ∙ ap (λ p. after_comments comments (elaborated_parsed (whole closing p))) (sym (at s.comments))
 
 -- ---- which it is, where nothing is wrong
 
@@ -143,6 +150,7 @@ opens-by : (first : ℕ) (label : Option ℕ) (deep : Bool) (comments : List (Li
     → fault_of (mark_of (record { first = first; label = label; deep = deep; comments = comments; phrase = phrase }) ∷ ms) ≡ None → Opens phrase
 opens-by first label deep comments (program n) ms h = tt
 opens-by first label deep comments (subroutine n ds) ms h = tt
+opens-by first label deep comments (function form n ds) ms h = tt
 opens-by first label deep comments (specification d) ms h = tt
 opens-by first label deep comments (simple w) ms h = tt
 opens-by first label deep comments (logical_if e w) ms h = tt
@@ -151,21 +159,29 @@ opens-by first label deep comments (else_if e) ms h = else-if-stray label first 
 opens-by first label deep comments else_part ms h = else-stray label first (first-faults (record { line = first; label = label; role = roles.Else; deep = deep }) ms h)
 opens-by first label deep comments end_if ms h = end-if-stray label first (first-faults (record { line = first; label = label; role = roles.EndIf; deep = deep }) ms h)
 opens-by first label deep comments (do_head d) ms h = tt
+opens-by first label deep comments (while_head l e) ms h = tt
 opens-by first label deep comments end_do ms h = end-do-stray label first (first-faults (record { line = first; label = label; role = roles.EndDo; deep = deep }) ms h)
 opens-by first label deep comments end_module ms h = tt
 
 -- ---- modules
 
-faultless-after : (o : Option Refusal) (comments closing : List (List ℕ)) (s : StatementTree) (ss : List StatementTree) (m : ParsedTree) → fault_of (marks_of (s ∷ ss)) ≡ o
+-- the fault of a module does not depend on comments
+same-fault : (comments : List (List ℕ)) (s : StatementTree) (ss : List StatementTree) → module_fault (after_statement comments s ∷ ss) ≡ module_fault (s ∷ ss)
+unfolding reference_fault
+same-fault comments s ss = refl
+
+faultless-after : (o : Option Refusal) (comments closing : List (List ℕ)) (s : StatementTree) (ss : List StatementTree) (m : ParsedTree) → module_fault (s ∷ ss) ≡ o
     → unless_faulty o (build_module closing (s ∷ ss)) ≡ Ok m → unless_faulty o (build_module closing (after_statement comments s ∷ ss)) ≡ Ok (after_comments comments m)
 faultless-after None comments closing s ss m e h =
-    let opens = opens-by s.first s.label s.deep s.comments s.phrase (marks_of ss) e in
+    let opens = opens-by s.first s.label s.deep s.comments s.phrase (marks_of ss) (no-fault (s ∷ ss) e).structure in
     ap Ok (built-after comments closing s ss opens) ∙ ap (result_map (after_comments comments) (λ r. r)) h
 faultless-after (Some f) comments closing s ss m e h = cc
 
 module-after : (comments closing : List (List ℕ)) (s : StatementTree) (ss : List StatementTree) (m : ParsedTree) → module_read closing (s ∷ ss) ≡ Ok m
     → module_read closing (after_statement comments s ∷ ss) ≡ Ok (after_comments comments m)
-module-after comments closing s ss m h = faultless-after (fault_of (marks_of (s ∷ ss))) comments closing s ss m refl h
+module-after comments closing s ss m h =
+    ap (λ o. unless_faulty o (build_module closing (after_statement comments s ∷ ss))) (same-fault comments s ss)
+    ∙ faultless-after (module_fault (s ∷ ss)) comments closing s ss m refl h
 
 -- a module, and others after it
 prefixed-after : (comments : List (List ℕ)) (r : Result (List ParsedTree) Refused) (p m : ParsedTree) (ms : List ParsedTree) → prefixed (p ∷ []) r ≡ Ok (m ∷ ms)
@@ -216,8 +232,8 @@ pub record Closed (closing : List (List ℕ)) (ss : List StatementTree) (m : Par
   pub unclosed_read : module_read [] ss ≡ Ok (unclosed m)
   pub closing_is : m.places.closing ≡ closing
 
-closed-by : (o : Option Refusal) (closing : List (List ℕ)) (ss : List StatementTree) (m : ParsedTree) → fault_of (marks_of ss) ≡ o → unless_faulty o (build_module closing ss) ≡ Ok m → Closed closing ss m
-unfolding build_module
+closed-by : (o : Option Refusal) (closing : List (List ℕ)) (ss : List StatementTree) (m : ParsedTree) → module_fault ss ≡ o → unless_faulty o (build_module closing ss) ≡ Ok m → Closed closing ss m
+unfolding build_module written_module
 closed-by None closing ss m e h =
     let same : build_module closing ss ≡ m = cc in
     record {
@@ -227,4 +243,4 @@ closed-by None closing ss m e h =
 closed-by (Some f) closing ss m e h = cc
 
 pub closed-module : (closing : List (List ℕ)) (ss : List StatementTree) (m : ParsedTree) → module_read closing ss ≡ Ok m → Closed closing ss m
-closed-module closing ss m h = closed-by (fault_of (marks_of ss)) closing ss m refl h
+closed-module closing ss m h = closed-by (module_fault ss) closing ss m refl h

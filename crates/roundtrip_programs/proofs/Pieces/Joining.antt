@@ -11,7 +11,11 @@ use Rattle.f77_ast.specs.DeclTrees.{ParsedTree}
 use Rattle.f77_structure.specs.Lists.{is_none_of}
 use Rattle.f77_parser.specs.Gives.{and_then}
 use Rattle.f77_parser.specs.Statements.{StatementTree}
-use Rattle.f77_parser.specs.Modules.{ends_module, closing_at, module_read, modules_from, parse_of}
+use Rattle.f77_parser.specs.Functions.{bounded_names}
+use Rattle.f77_parser.specs.Ends.{ends_module, decls_to_end}
+use Rattle.f77_parser.specs.References.{empty_call_fault}
+use Rattle.roundtrip_programs.proofs.Assigned.{NoCalls, well-read, same-uncalled, both-uncalled, none-uncalled}
+use Rattle.f77_parser.specs.Modules.{closing_at, module_read, modules_from, parse_of}
 use Rattle.fixed_form.specs.Pieces.{end_lines, cut_from, pieces_of}
 use Rattle.roundtrip_programs.specs.Texts.Texts.{IsReadAs}
 use Rattle.roundtrip_programs.specs.Pieces.Moved.{moved_line, moved_spot, moved}
@@ -19,8 +23,8 @@ use Rattle.roundtrip_programs.specs.Pieces.Laws.{ArePiecesOf}
 use Rattle.roundtrip_programs.specs.Pieces.Joined.{ended, joined_texts, before_spots, after_comments, unclosed, joined_from, JoinedAreRead}
 use Rattle.roundtrip_programs.proofs.Pieces.Cutting.{given, calm-outer}
 use Rattle.roundtrip_programs.proofs.Pieces.Counting.{moved_rest, rest-moved}
-use Rattle.roundtrip_programs.proofs.Pieces.Parsing.{moved_statement, moved_refused, result_map, modules-moved, AreRead, read-moved}
-use Rattle.roundtrip_programs.proofs.Pieces.First.{no-end, none-left, ends-behind, lined, Parsed, parsed, join-parts, AllInner, up-to-end, prefixed, modules-prefixed}
+use Rattle.roundtrip_programs.proofs.Pieces.Parsing.{moved_statement, phrases-moved, moved_refused, result_map, modules-moved, AreRead, read-moved}
+use Rattle.roundtrip_programs.proofs.Pieces.First.{no-end, none-left, ends-behind, lined, Parsed, parsed, join-parts, AllInner, all-inner, up-to-end, prefixed, modules-prefixed}
 use Rattle.roundtrip_programs.proofs.Pieces.Pieces.{pieces_are_modules, ends-well-moved, still, twice, read-as, none-read, opening}
 use Rattle.roundtrip_programs.proofs.Pieces.JoinedLines.{joined-lines, initial-first, faultless-join, after_line, both, both-rest, ends-join}
 use Rattle.roundtrip_programs.proofs.Pieces.Fronted.{after_statement, read-after-comments, modules-after, closed-module}
@@ -35,6 +39,7 @@ record Single (lines : Lines) (m : ParsedTree) : Type 0 where
   pub inner : AllInner fore
   pub ends : ends_module end.phrase ≡ true
   pub own : module_read lines.closing (fore ++ end ∷ []) ≡ Ok m
+  pub calls : NoCalls (bounded_names (decls_to_end (fore ++ end ∷ []))) (fore ++ end ∷ [])
 
 one-end : (es text : List ℕ) (m : ParsedTree) → ArePiecesOf (cut_from 1 es text) (m ∷ []) → (e : ℕ) × (es ≡ e ∷ [])
 one-end [] text m h = absurd h
@@ -68,6 +73,7 @@ single text lines m h g =
       inner = o.inner;
       ends = o.ends;
       own = own-of o.post lines.closing (o.fore ++ o.end ∷ []) m post (o.of.own ∙ ap Ok first);
+      calls = o.calls.own;
     }
 
 -- ---- two texts
@@ -86,32 +92,35 @@ record Second (by : ℕ) (comments closing : List (List ℕ)) (l : Line) (ls : L
   pub first : StatementTree
   pub others : List StatementTree
   pub read : AreRead (after_line comments (moved_line by l) ∷ map (moved_line by) ls) (first ∷ others)
+  pub calls : empty_call_fault (first ∷ others) ≡ None
   pub made : modules_from closing [] [] (first ∷ others) ≡ Ok (fronted comments by ms)
 
 no-modules : {P : Type 0} (closing : List (List ℕ)) (m : ParsedTree) (ms : List ParsedTree) → modules_from closing [] [] [] ≡ Ok (m ∷ ms) → P
 no-modules closing m ms h = cc
 
-second-by : (by : ℕ) (comments closing : List (List ℕ)) (l : Line) (ls : List Line) (m : ParsedTree) (ms : List ParsedTree) (ss : List StatementTree) → AreRead (l ∷ ls) ss
+second-by : (by : ℕ) (comments closing : List (List ℕ)) (l : Line) (ls : List Line) (m : ParsedTree) (ms : List ParsedTree) (ss : List StatementTree) → AreRead (l ∷ ls) ss → empty_call_fault ss ≡ None
     → modules_from closing [] [] ss ≡ Ok (m ∷ ms) → Second by comments closing l ls (m ∷ ms)
-second-by by comments closing l ls m ms [] h g = absurd h
-second-by by comments closing l ls m ms (s ∷ ss) h g =
+second-by by comments closing l ls m ms [] h c g = absurd h
+second-by by comments closing l ls m ms (s ∷ ss) h c g =
     let r = read-moved by (l ∷ ls) (s ∷ ss) h in record {
       first = after_statement comments (moved_statement by s);
       others = map (moved_statement by) ss;
       read = record { first = read-after-comments comments (moved_line by l) (moved_statement by s) r.first; others = r.others };
+      calls = same-uncalled (s ∷ ss) (after_statement comments (moved_statement by s) ∷ map (moved_statement by) ss) (ap (λ ps. s.phrase ∷ ps) (sym (phrases-moved by ss))) c;
       made = modules-after comments closing (moved_statement by s) (map (moved_statement by) ss) (moved by m) (map (moved by) ms)
           (modules-moved by closing [] [] (s ∷ ss) ∙ ap (result_map (map (moved by)) (moved_refused by)) g);
     }
 
 -- the first text's statements, then those of the second
 joined-parsed : (closing own : List (List ℕ)) (one : List Line) (fore : List StatementTree) (end : StatementTree) (m : ParsedTree) (two : List Line) (s : StatementTree) (ss : List StatementTree) (ms : List ParsedTree)
-    → AreRead one (fore ++ end ∷ []) → AllInner fore → ends_module end.phrase ≡ true → module_read own (fore ++ end ∷ []) ≡ Ok m → AreRead two (s ∷ ss) → modules_from closing [] [] (s ∷ ss) ≡ Ok ms
+    → AreRead one (fore ++ end ∷ []) → AllInner fore → ends_module end.phrase ≡ true → NoCalls (bounded_names (decls_to_end (fore ++ end ∷ []))) (fore ++ end ∷ []) → module_read own (fore ++ end ∷ []) ≡ Ok m → AreRead two (s ∷ ss) → empty_call_fault (s ∷ ss) ≡ None → modules_from closing [] [] (s ∷ ss) ≡ Ok ms
     → Parsed closing (one ++ two) (unclosed m ∷ ms)
-joined-parsed closing own one fore end m two s ss ms r i e h q g =
+joined-parsed closing own one fore end m two s ss ms r i e k h q d g =
     let c = closed-module own (fore ++ end ∷ []) m h in
     record {
       own = (fore ++ end ∷ []) ++ s ∷ ss;
       read = join-parts one two (fore ++ end ∷ []) (s ∷ ss) r q;
+      calls = ap empty_call_fault (append_assoc fore (end ∷ []) (s ∷ ss)) ∙ both-uncalled fore end (s ∷ ss) (all-inner fore i) e k d;
       made = ap (modules_from closing [] []) (append_assoc fore (end ∷ []) (s ∷ ss))
           ∙ up-to-end closing [] fore end (s ∷ ss) i e
           ∙ ap (λ x. and_then x (λ p. modules_from closing (p ∷ []) [] (s ∷ ss))) c.unclosed_read
@@ -148,12 +157,12 @@ two-by text more m n ns one two l ls h g x y z =
     let s = single text one m h g in
     let p = parsed two (n ∷ ns) y in
     let Q : List Line → Type 0 = λ k. AreRead k p.own in
-    let q = second-by by one.closing two.closing l ls n ns p.own (subst Q z p.read) p.made in
+    let q = second-by by one.closing two.closing l ls n ns p.own (subst Q z p.read) p.calls p.made in
     read-as (ended text ++ more) (xs ++ ys) ss two.closing (unclosed m ∷ fronted one.closing by (n ∷ ns)) (joined-lines text more)
     (faultless-join xs ys None None 1 1 1 d.faultless e.faultless calm) statements (ap (λ r. r.closing) whole)
     (ends-join one.lines (after_line one.closing (moved_line by l)) (map (moved_line by) ls) (ends-after one.closing (moved_line by l) (map (moved_line by) ls) ∙ ends-well-moved by (l ∷ ls) ∙ ends_so))
     (joined-parsed two.closing one.closing one.lines s.fore s.end m (after_line one.closing (moved_line by l) ∷ map (moved_line by) ls) q.first q.others (fronted one.closing by (n ∷ ns))
-    s.read s.inner s.ends s.own q.read q.made)
+    s.read s.inner s.ends s.calls s.own q.read q.calls q.made)
 
 some-lines : (ls : List Line) (two : Lines) (n : ParsedTree) (ns : List ParsedTree) (P : Type 0) → two.lines ≡ ls → parse_of two ≡ Ok (n ∷ ns) → ((l : Line) (rest : List Line) → two.lines ≡ l ∷ rest → P) → P
 some-lines [] two n ns P e h f =
@@ -225,7 +234,7 @@ same-lines text more ms e r = record {
 
 nothing : IsReadAs [] []
 unfolding reading first_fault rest_from parse_of
-nothing = record { lines = record { lines = []; closing = [] }; lined = refl; parsed = refl }
+nothing = record { lines = record { lines = []; closing = [] }; lined = refl; parsed = ap (λ r. and_then r (λ ss. modules_from [] [] [] ss)) (well-read [] [] refl none-uncalled) }
 
 heads : (comments : List (List ℕ)) (by : ℕ) (t : List ℕ) (ts : List (List ℕ)) (m : ParsedTree) (ms : List ParsedTree) → (n : ParsedTree) × (ns : List ParsedTree) × (joined_from comments by (t ∷ ts) (m ∷ ms) ≡ n ∷ ns)
 heads comments by t [] m ms = (after_comments comments (moved by m), [], refl)

@@ -1,27 +1,33 @@
 -- Statements and modules are read the same at other lines.
-use Rattle.std.proofs.Common.{◌≡◌, ℕ, ◌+◌, List, [], ◌∷◌, ◌++◌, map, refl, ap, sym, ◌∙◌, append_assoc, append-nil, if◌then◌else◌}
+use Rattle.std.proofs.Common.{◌≡◌, ℕ, ◌+◌, Bool, true, false, List, [], ◌∷◌, ◌++◌, map, refl, ap, sym, ◌∙◌, append_assoc, append-nil, if◌then◌else◌}
 use Rattle.std.specs.Prelude.{Option, Some, None, option_map, Result, Ok, Err}
 use Rattle.std.proofs.lemmas.List.{map-append}
 use Rattle.fixed_form.specs.declared.line.Line.{Line}
 use Rattle.f77_ast.specs.declared.places.Part.{Part}
 use Rattle.f77_ast.specs.declared.places.Part.TheVariants as parts
 use Rattle.f77_ast.specs.Trees.{ExprTree, WhatTree, continue}
-use Rattle.f77_ast.specs.PlainStmt.{stmts_of}
 use Rattle.f77_ast.specs.DeclTrees.{ParsedTree}
+use Rattle.fx_lists.specs.declared.code.Code.TheVariants.{StrayPart}
 use Rattle.fx_lists.specs.declared.refusal.Refusal.{Refusal}
+use Rattle.f77_parser.specs.Functions.{bounded_names}
+use Rattle.f77_parser.specs.Ends.{decls_to_end}
+use Rattle.f77_parser.specs.Standing.{standing}
+use Rattle.f77_parser.specs.References.{assigned_by, empty_call_fault, is_bad_reference, bad_reference_from, bad_reference_in, reference_fault}
 use Rattle.f77_statements.specs.declared.refusal.Cause.{Cause}
-use Rattle.f77_statements.specs.Phrases.{PhraseTree, program, subroutine, specification, simple, logical_if, block_if, else_if, else_part, end_if, do_head, end_do, end_module}
+use Rattle.f77_statements.specs.Phrases.{PhraseTree, program, subroutine, function, specification, simple, logical_if, block_if, else_if, else_part, end_if, do_head, while_head, end_do, end_module}
 use Rattle.f77_statements.specs.Statements.{phrase_of}
 use Rattle.f77_structure.specs.Lists.{is_none_of}
 use Rattle.f77_structure.specs.Checks.{fault_of}
 use Rattle.f77_structure.specs.Depth.{is_deep}
 use Rattle.f77_parser.specs.Gives.{Refused, and_then}
 use Rattle.f77_parser.specs.Statements.{StatementTree, read_as, statement_of, all_read, mark_of, marks_of}
-use Rattle.f77_parser.specs.SoFar.{OpeningTree, opening_loop, branches, AroundTree, SoFar, spot, add_spot, add_executable, add_logical_if, is_loop_to, leave_block, leave_loops, end_loops, end_loops_at, open_block, close_innermost, close_block}
-use Rattle.f77_parser.specs.Building.{divide_innermost, add_continue, close_if, close_do, close_module, add_phrase, add_statement, add_all, no_statements, build_module}
-use Rattle.f77_parser.specs.Modules.{ends_module, closing_at, unless_faulty, module_read, modules_from}
+use Rattle.f77_parser.specs.SoFar.{OpeningTree, opening_loop, opening_while, branches, AroundTree, SoFar, spot, add_spot, add_executable, add_logical_if, is_loop_to, leave_block, leave_loops, end_loops, end_loops_at, open_block, add_while, close_innermost, close_block}
+use Rattle.f77_parser.specs.Building.{divide_innermost, add_continue, close_if, close_do, close_module, add_phrase, add_statement, add_all, no_statements, whole, elaborated_parsed, written_module, build_module}
+use Rattle.f77_parser.specs.Ends.{ends_module}
+use Rattle.f77_parser.specs.Modules.{module_fault, with_reference, closing_at, unless_faulty, module_read, modules_from}
 use Rattle.roundtrip_programs.specs.Pieces.Moved.{moved_line, moved_spot, moved}
-use Rattle.roundtrip_programs.proofs.Pieces.Structure.{moved_mark, moved_refusal, choice-through, fault-moved}
+use Rattle.roundtrip_programs.proofs.Pieces.Structure.{moved_mark, moved_refusal, choice-through, refuse-moved, fault-moved}
+use Rattle.roundtrip_programs.proofs.Assigned.{phrases, same-decls, same-standing, same-uncalled}
 
 abbrev pub moved_statement : ℕ → StatementTree → StatementTree
 moved_statement by s = record s { first = s.first + by }
@@ -88,10 +94,16 @@ close-module-moved : (by first : ℕ) (label : Option ℕ) (comments : List (Lis
 close-module-moved by first None comments p = spot-moved by _ first comments _
 close-module-moved by first (Some l) comments p = ap (add_spot parts.End (first + by) []) (continue-moved by first l comments p) ∙ spot-moved by _ first [] _
 
+while-moved : (by first : ℕ) (label : Option ℕ) (comments : List (List ℕ)) (l : Option ℕ) (e : ExprTree) (p : SoFar)
+    → open_block (first + by) label comments (opening_while l e) (add_while (moved_so_far by p)) ≡ moved_so_far by (open_block first label comments (opening_while l e) (add_while p))
+unfolding add_while
+while-moved by first label comments l e p = open-moved by first label comments (opening_while l e) (add_while p)
+
 phrase-moved : (by first : ℕ) (label : Option ℕ) (comments : List (List ℕ)) (phrase : PhraseTree) (p : SoFar)
     → add_phrase (first + by) label comments phrase (moved_so_far by p) ≡ moved_so_far by (add_phrase first label comments phrase p)
 phrase-moved by first label comments (program n) p = spot-moved by _ first comments _
 phrase-moved by first label comments (subroutine n ds) p = spot-moved by _ first comments _
+phrase-moved by first label comments (function form n ds) p = spot-moved by _ first comments _
 phrase-moved by first label comments (specification d) p = spot-moved by _ first comments _
 phrase-moved by first label comments (simple w) p =
     ap (end_loops_at label) (executable-moved by first label comments w p) ∙ end-loops-moved by label (add_executable first label comments w p)
@@ -102,6 +114,7 @@ phrase-moved by first label comments (else_if e) p = divided by p.around first c
 phrase-moved by first label comments else_part p = divided by p.around first comments None p
 phrase-moved by first label comments end_if p = close-if-moved by first label comments p
 phrase-moved by first label comments (do_head d) p = open-moved by first label comments (opening_loop d) p
+phrase-moved by first label comments (while_head l e) p = while-moved by first label comments l e p
 phrase-moved by first label comments end_do p = close-do-moved by first label comments p
 phrase-moved by first label comments end_module p = close-module-moved by first label comments p
 
@@ -111,12 +124,8 @@ all-moved by (s ∷ ss) p =
     ap (add_all (map (moved_statement by) ss)) (phrase-moved by s.first s.label s.comments s.phrase p) ∙ all-moved by ss (add_statement s p)
 
 built-moved : (by : ℕ) (closing : List (List ℕ)) (ss : List StatementTree) → build_module closing (map (moved_statement by) ss) ≡ moved by (build_module closing ss)
-unfolding build_module
-built-moved by closing ss =
-    ap (λ p. record {
-      module_read = record { name = p.heading.name; main = p.heading.main; titled = p.heading.titled; dummies = p.heading.dummies; decls = p.decls; body = stmts_of p.list; function = None; references = []; whiles = [] };
-      places = record { spots = p.spots; closing = closing };
-    }) (all-moved by ss no_statements)
+unfolding build_module written_module
+built-moved by closing ss = ap (λ p. elaborated_parsed (whole closing p)) (all-moved by ss no_statements)
 
 -- ---- modules
 
@@ -135,13 +144,51 @@ unless-moved : (by : ℕ) (found : Option Refusal) (p : ParsedTree) → unless_f
 unless-moved by None p = refl
 unless-moved by (Some f) p = refl
 
+pub phrases-moved : (by : ℕ) (ss : List StatementTree) → phrases (map (moved_statement by) ss) ≡ phrases ss
+phrases-moved by [] = refl
+phrases-moved by (s ∷ ss) = ap (λ ps. s.phrase ∷ ps) (phrases-moved by ss)
+
+moved-by : (by : ℕ) (c : Bool) (s : ℕ) (o p : Option ℕ) → p ≡ option_map (λ k. k + by) o → (if c then Some (s + by) else p) ≡ option_map (λ k. k + by) (if c then Some s else o)
+moved-by by true s o p h = refl
+moved-by by false s o p h = h
+
+bad-moved : (by : ℕ) (bounded names : List (List ℕ)) (ss : List StatementTree) → bad_reference_from bounded names (map (moved_statement by) ss) ≡ option_map (λ k. k + by) (bad_reference_from bounded names ss)
+bad-moved by bounded names [] = refl
+bad-moved by bounded names (s ∷ ss) =
+    moved-by by (is_bad_reference bounded names (assigned_by s.phrase)) s.first (bad_reference_from bounded names ss) (bad_reference_from bounded names (map (moved_statement by) ss)) (bad-moved by bounded names ss)
+
+reference-moved : (by : ℕ) (ss : List StatementTree) → reference_fault (map (moved_statement by) ss) ≡ option_map (λ k. k + by) (reference_fault ss)
+unfolding reference_fault
+reference-moved by ss =
+    let m = map (moved_statement by) ss in
+    ap (λ ds. bad_reference_in (bounded_names ds) m) (same-decls m ss (phrases-moved by ss))
+    ∙ ap (λ names. bad_reference_from (bounded_names (decls_to_end ss)) names m) (same-standing (bounded_names (decls_to_end ss)) m ss (phrases-moved by ss))
+    ∙ bad-moved by (bounded_names (decls_to_end ss)) (standing (bounded_names (decls_to_end ss)) ss) ss
+
+with-moved : (by : ℕ) (o : Option ℕ) (f : Option Refusal) → with_reference (option_map (λ k. k + by) o) (option_map (moved_refusal by) f) ≡ option_map (moved_refusal by) (with_reference o f)
+with-moved by None f = refl
+with-moved by (Some line) f = refuse-moved by true line StrayPart f
+
+module-fault-moved : (by : ℕ) (ss : List StatementTree) → module_fault (map (moved_statement by) ss) ≡ option_map (moved_refusal by) (module_fault ss)
+module-fault-moved by ss =
+    ap (λ o. with_reference o (fault_of (marks_of (map (moved_statement by) ss)))) (reference-moved by ss)
+    ∙ ap (λ ms. with_reference (option_map (λ k. k + by) (reference_fault ss)) (fault_of ms)) (marks-moved by ss)
+    ∙ ap (with_reference (option_map (λ k. k + by) (reference_fault ss))) (fault-moved by (marks_of ss))
+    ∙ with-moved by (reference_fault ss) (fault_of (marks_of ss))
+
+-- no such F() at other lines
+pub uncalled-moved : (by : ℕ) (ss : List StatementTree) → empty_call_fault (map (moved_statement by) ss) ≡ None → empty_call_fault ss ≡ None
+uncalled-moved by ss h = same-uncalled (map (moved_statement by) ss) ss (phrases-moved by ss) h
+
+pub moved-uncalled : (by : ℕ) (ss : List StatementTree) → empty_call_fault ss ≡ None → empty_call_fault (map (moved_statement by) ss) ≡ None
+moved-uncalled by ss h = same-uncalled ss (map (moved_statement by) ss) (sym (phrases-moved by ss)) h
+
 pub module-moved : (by : ℕ) (closing : List (List ℕ)) (ss : List StatementTree)
     → module_read closing (map (moved_statement by) ss) ≡ result_map (moved by) (moved_refused by) (module_read closing ss)
 module-moved by closing ss =
-    ap (λ ms. unless_faulty (fault_of ms) (build_module closing (map (moved_statement by) ss))) (marks-moved by ss)
-    ∙ ap (λ f. unless_faulty f (build_module closing (map (moved_statement by) ss))) (fault-moved by (marks_of ss))
-    ∙ ap (unless_faulty (option_map (moved_refusal by) (fault_of (marks_of ss)))) (built-moved by closing ss)
-    ∙ unless-moved by (fault_of (marks_of ss)) (build_module closing ss)
+    ap (λ f. unless_faulty f (build_module closing (map (moved_statement by) ss))) (module-fault-moved by ss)
+    ∙ ap (unless_faulty (option_map (moved_refusal by) (module_fault ss))) (built-moved by closing ss)
+    ∙ unless-moved by (module_fault ss) (build_module closing ss)
 
 none-of-moved : (by : ℕ) (ss : List StatementTree) → is_none_of (map (moved_statement by) ss) ≡ is_none_of ss
 none-of-moved by [] = refl

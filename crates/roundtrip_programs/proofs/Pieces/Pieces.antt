@@ -13,7 +13,10 @@ use Rattle.f77_ast.specs.DeclTrees.{ParsedTree}
 use Rattle.f77_structure.specs.Lists.{is_none_of}
 use Rattle.f77_parser.specs.Gives.{Refused, and_then}
 use Rattle.f77_parser.specs.Statements.{StatementTree, statement_of}
-use Rattle.f77_parser.specs.Modules.{ends_module, closing_at, module_read, modules_from, parse_of}
+use Rattle.f77_parser.specs.Ends.{ends_module}
+use Rattle.f77_parser.specs.References.{empty_call_fault}
+use Rattle.roundtrip_programs.proofs.Assigned.{Uncalled, first-uncalled, alone-uncalled}
+use Rattle.f77_parser.specs.Modules.{closing_at, module_read, modules_from, parse_of}
 use Rattle.fixed_form.specs.declared.source.Piece.{Piece}
 use Rattle.fixed_form.specs.Cuts.{first_lines, after_lines}
 use Rattle.fixed_form.specs.Pieces.{end_lines, piece, module_text, cut_from, pieces_of}
@@ -24,8 +27,8 @@ use Rattle.roundtrip_programs.proofs.Pieces.Texts.{front-lines, back-lines}
 use Rattle.roundtrip_programs.proofs.Pieces.Cutting.{given, cut_statement}
 use Rattle.roundtrip_programs.proofs.Pieces.Counting.{moved_rest, rest-moved}
 use Rattle.roundtrip_programs.proofs.Pieces.LineFaults.{faultless-front, faultless-back, faultless-anew}
-use Rattle.roundtrip_programs.proofs.Pieces.Parsing.{moved_statement, moved_refused, result_map, modules-moved, AreRead, unmoved}
-use Rattle.roundtrip_programs.proofs.Pieces.First.{FirstEnd, first-end, no-end, none-left, ends-behind, lined, lines_in, read-lines, Parsed, parsed, parse-again, in-parts, join-parts, AllInner, inner, ends, FirstOf, first-module, up-to-end}
+use Rattle.roundtrip_programs.proofs.Pieces.Parsing.{uncalled-moved, moved_statement, moved_refused, result_map, modules-moved, AreRead, unmoved}
+use Rattle.roundtrip_programs.proofs.Pieces.First.{all-inner, FirstEnd, first-end, no-end, none-left, ends-behind, lined, lines_in, read-lines, Parsed, parsed, parse-again, in-parts, join-parts, AllInner, inner, ends, FirstOf, first-module, up-to-end}
 
 -- ---- at other lines
 
@@ -195,6 +198,7 @@ pub record Opening (lines : Lines) (ms : List ParsedTree) (e : ℕ) (es : List �
   pub inner : AllInner fore
   pub ends : ends_module end.phrase ≡ true
   pub of : FirstOf lines.closing fore end post ms
+  pub calls : Uncalled fore end post
 
 pub opening : (lines : Lines) (ms : List ParsedTree) (e : ℕ) (es : List ℕ) → parse_of lines ≡ Ok ms → end_lines lines.lines ≡ e ∷ es → Opening lines ms e es
 opening lines ms e es h g =
@@ -217,6 +221,7 @@ opening lines ms e es h g =
       inner = i;
       ends = en;
       of = first-module lines.closing q.fore t.head t.tail ms i en (ap (modules_from lines.closing [] []) (sym whole) ∙ p.made);
+      calls = first-uncalled q.fore t.head t.tail (all-inner q.fore i) en (ap empty_call_fault (sym whole) ∙ p.calls);
     }
 
 closed : (b : Bool) (closing : List (List ℕ)) → b ≡ false → closing_at b closing ≡ []
@@ -242,6 +247,7 @@ split text lines ms e next es h g z =
     let alone : Parsed [] (f.before ++ f.end ∷ []) (o.of.first ∷ []) = record {
       own = o.fore ++ o.end ∷ [];
       read = join-parts f.before (f.end ∷ []) o.fore (o.end ∷ []) o.read_fore (record { first = o.read_end; others = tt });
+      calls = alone-uncalled o.fore o.end (all-inner o.fore o.inner) o.ends o.calls.own;
       made = up-to-end [] [] o.fore o.end [] o.inner o.ends ∙ ap (λ x. and_then x (λ p. modules_from [] (p ∷ []) [] [])) own;
     } in
     let r : Rest = rest_from 1 c.back in
@@ -264,7 +270,7 @@ split text lines ms e next es h g z =
       rest = lines_in r;
       lined = read-lines (after_lines (e + 1 - 1) text) c.back back (faultless-anew c.back 1 b.0 None b.1 1 calm b.2)
           (sym (ends-well-moved e r.statements) ∙ ap ends_well statements ∙ ended);
-      parsed = parse-again (lines_in r) v.own (record { own = u.own; read = u.read; made = ap (λ x. modules_from x [] [] u.own) closing ∙ v.made });
+      parsed = parse-again (lines_in r) v.own (record { own = u.own; read = u.read; calls = uncalled-moved e u.own (ap empty_call_fault (sym u.is) ∙ o.calls.behind); made = ap (λ x. modules_from x [] [] u.own) closing ∙ v.made });
       ends_after = sym (end-lines-moved e r.statements) ∙ ap end_lines statements ∙ f.others;
     }
 

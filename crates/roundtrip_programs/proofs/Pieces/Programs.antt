@@ -1,8 +1,7 @@
 -- A program of one text, and of a text for each module.
-use Rattle.std.proofs.Common.{◌≡◌, ℕ, ◌+◌, List, [], ◌∷◌, length, map, refl, ap, ◌∙◌}
+use Rattle.std.proofs.Common.{◌≡◌, List, [], ◌∷◌, map, refl, ap, ◌∙◌}
 use Rattle.f77_ast.specs.DeclTrees.{ParsedTree}
 use Rattle.f77_ast.specs.Symbols.{SymbolTree}
-use Rattle.fixed_form.specs.TextLines.{text_lines}
 use Rattle.fixed_form.specs.declared.source.Piece.{Piece}
 use Rattle.fixed_form.specs.Pieces.{pieces_of}
 use Rattle.roundtrip_programs.specs.Laws.{tree_of, TablesIgnorePlaces, GraphsIgnorePlaces}

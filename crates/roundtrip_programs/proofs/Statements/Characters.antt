@@ -2,8 +2,7 @@
 use Rattle.std.proofs.Common.{◌≡◌, ℕ, ◌<◌, ◌≤◌, arith, true, false}
 use Rattle.std.specs.Prelude.{nat_eq, nat_le}
 use Rattle.std.specs.Char.{is_ascii_digit, is_ascii_uppercase}
-use Rattle.std.proofs.lemmas.Bool.{ne_eqb, leb-true, and_parts, and_right, lt-leb}
-use Rattle.fx_lists.proofs.Numbers.{letter_is_no_digit}
+use Rattle.std.proofs.lemmas.Bool.{ne_eqb, leb-true, and_parts}
 
 pub letter_range : (c : ℕ) → is_ascii_uppercase c ≡ true → (65 ≤ c) × (c ≤ 90)
 letter_range c h = let p = and_parts (nat_le 65 c) (nat_le c 90) h in (leb-true 65 c p.0, leb-true c 90 p.1)

@@ -1,10 +1,12 @@
 -- The text of a statement ends outside its character constants, and its letters outside them are capitals.
-use Rattle.std.proofs.Common.{ℕ, List, [], ◌∷◌, ◌++◌, refl, ap, ◌∙◌, sym, append_assoc, Option, Some, None, false, true, decimal}
+use Rattle.std.proofs.Common.{ℕ, List, [], ◌∷◌, ◌++◌, refl, ap, ◌∙◌, sym, subst, append_assoc, Option, Some, None, false, true, decimal}
 use Rattle.std.specs.Prelude.{codes}
+use Rattle.f77_ast.specs.declared.module.FunctionForm.{FunctionForm}
+use Rattle.f77_ast.specs.declared.module.FunctionForm.TheVariants.{Plain, Integer, Logical}
 use Rattle.f77_ast.specs.Trees.{ExprTree, WhatTree, assign, call, goto, continue, return, stop, print, read}
 use Rattle.f77_ast.specs.Trees as trees
 use Rattle.f77_ast.specs.DeclTrees.{CommonTree, DataTree, DeclTree, implicit, integer, logical, dimension, parameter, common, equivalence, save, initial}
-use Rattle.f77_statements.specs.Phrases.{PhraseTree, program, subroutine, specification, simple, block_if, else_if, else_part, end_if, do_head, end_do, end_module}
+use Rattle.f77_statements.specs.Phrases.{PhraseTree, program, subroutine, function, specification, simple, block_if, else_if, else_part, end_if, do_head, while_head, end_do, end_module}
 use Rattle.f77_statements.specs.Phrases as phrases
 use Rattle.fixed_form.specs.Body as body
 use Rattle.f77_printer.specs.ExprText.{expr_text, items_text}
@@ -15,13 +17,13 @@ use Rattle.roundtrip_programs.specs.Statements.Formed.{IsExpression, Each}
 use Rattle.roundtrip_programs.specs.Statements.Declared.{MaybeExpression, IsArray, IsBlock, IsCommon, IsGroup, IsSaved, IsInitial, IsDecl}
 use Rattle.roundtrip_programs.specs.Statements.Phrased.{IsWhat, IsPhrase}
 use Rattle.roundtrip_programs.specs.Statements.Written.{phrase_text}
-use Rattle.f77_printer.specs.ModuleText.{dummies_text}
+use Rattle.f77_printer.specs.ModuleText.{dummies_text, function_word}
 use Rattle.roundtrip_programs.specs.Statements.Laws.{IsClosed, IsLined, HasNoTab}
-use Rattle.roundtrip_programs.proofs.Statements.Balanced.{Kind, tight, Balanced, word, decimal_quiet, expr_balanced}
+use Rattle.roundtrip_programs.proofs.Statements.Balanced.{Kind, tight, Balanced, pair, word, decimal_quiet, expr_balanced}
 use Rattle.roundtrip_programs.proofs.Statements.Stripping.{solid}
 use Rattle.roundtrip_programs.proofs.Statements.Folding.{stays, pair_tabless, tabless}
-use Rattle.roundtrip_programs.proofs.Statements.Compact.{solid_end, name_balanced, variable_balanced, listed_balanced, variables_balanced, actuals_balanced, message_balanced}
-use Rattle.roundtrip_programs.proofs.Statements.TitleBack.{dummies_balanced}
+use Rattle.roundtrip_programs.proofs.Statements.Compact.{solid_end, name_balanced, right_balanced, variable_balanced, listed_balanced, variables_balanced, actuals_balanced, message_balanced}
+use Rattle.roundtrip_programs.proofs.Statements.TitleBack.{dummies_balanced, enclosed, enclosed_balanced, function-text}
 use Rattle.roundtrip_programs.proofs.Statements.EntityBack.{entity_balanced}
 use Rattle.roundtrip_programs.proofs.Statements.SmallParts.{saved_balanced, group_balanced}
 use Rattle.roundtrip_programs.proofs.Statements.DeclBack.{list_balanced, each_of, array_entity, typed_balanced, settings_balanced, implicit_balanced}
@@ -60,7 +62,7 @@ expression e f = part (expr_balanced f tight)
 
 what_closed : (w : WhatTree) → IsWhat w → IsText (what_text w)
 what_closed (assign v e) h =
-    both (expr_text v ++ codes " = ") (expr_text e) (both (expr_text v) (codes " = ") (part (variable_balanced v h.left tight)) (record { closed = λ u. refl; lined = λ u. refl; tabless = λ u. refl })) (expression e h.right)
+    both (expr_text v ++ codes " = ") (expr_text e) (both (expr_text v) (codes " = ") (part (variable_balanced v h.left tight)) (record { closed = λ u. refl; lined = λ u. refl; tabless = λ u. refl })) (part (right_balanced h.right tight))
 what_closed (call n es) h = both (codes "CALL " ++ n) (actuals_text es) (both (codes "CALL ") n (record { closed = λ u. refl; lined = λ u. refl; tabless = λ u. refl }) (part (name_balanced n h.callee tight))) (part (actuals_balanced h.actuals tight))
 what_closed (goto l) h = both (codes "GO TO ") (decimal l) (record { closed = λ u. refl; lined = λ u. refl; tabless = λ u. refl }) (part (word tight (decimal l) (decimal_quiet l h)))
 what_closed continue h = record { closed = λ u. refl; lined = λ u. refl; tabless = λ u. refl }
@@ -129,10 +131,18 @@ decl_closed (initial (g ∷ gs)) h =
 
 -- ---- each
 
+word_closed : (form : FunctionForm) → IsText (function_word form)
+word_closed Plain = record { closed = λ u. refl; lined = λ u. refl; tabless = λ u. refl }
+word_closed Integer = record { closed = λ u. refl; lined = λ u. refl; tabless = λ u. refl }
+word_closed Logical = record { closed = λ u. refl; lined = λ u. refl; tabless = λ u. refl }
+
 phrase_is : (p : PhraseTree) → IsPhrase p → IsText (phrase_text p)
 phrase_is (program n) h = both (codes "PROGRAM ") n (record { closed = λ u. refl; lined = λ u. refl; tabless = λ u. refl }) (part (name_balanced n h tight))
 phrase_is (subroutine n ds) h =
     both (codes "SUBROUTINE " ++ n) (dummies_text ds) (both (codes "SUBROUTINE ") n (record { closed = λ u. refl; lined = λ u. refl; tabless = λ u. refl }) (part (name_balanced n h.name tight))) (part (dummies_balanced ds h.dummies tight))
+phrase_is (function form n ds) h =
+    subst IsText (sym (function-text form n ds))
+    (both (function_word form) (n ++ enclosed ds) (word_closed form) (part (pair tight n (enclosed ds) (name_balanced n h.name tight) (enclosed_balanced ds h.dummies tight))))
 phrase_is (specification d) h = decl_closed d h
 phrase_is (simple w) h = what_closed w h
 phrase_is (phrases.logical_if e w) h =
@@ -152,6 +162,7 @@ phrase_is (do_head d) h =
     (record { closed = λ u. refl; lined = λ u. refl; tabless = λ u. refl }))
     (expression d.last h.last))
     (step_closed d.step h.step)
+phrase_is (while_head l e) h = both (codes "DO WHILE (" ++ expr_text e) (codes ")") (both (codes "DO WHILE (") (expr_text e) (record { closed = λ u. refl; lined = λ u. refl; tabless = λ u. refl }) (expression e h)) (record { closed = λ u. refl; lined = λ u. refl; tabless = λ u. refl })
 phrase_is end_do h = record { closed = λ u. refl; lined = λ u. refl; tabless = λ u. refl }
 phrase_is end_module h = record { closed = λ u. refl; lined = λ u. refl; tabless = λ u. refl }
 

@@ -5,11 +5,13 @@ use Rattle.std.specs.List.{list_all}
 use Rattle.std.proofs.lemmas.Bool.{and_parts, and_from, or_left, ltb-false, eqb-true, not_from_false}
 use Rattle.fixed_form.specs.declared.line.Line.{Line}
 use Rattle.fixed_form.specs.Characters.{is_allowed, is_tab}
+use Rattle.f77_ast.specs.declared.module.FunctionForm.{FunctionForm}
+use Rattle.f77_ast.specs.declared.module.FunctionForm.TheVariants.{Plain, Integer, Logical}
 use Rattle.f77_ast.specs.Trees.{ExprTree, int, log, name, element, paren, unary, binary, chars, no_exprs, more_exprs, WhatTree, assign, call, goto, continue, return, stop, print, read}
 use Rattle.f77_ast.specs.Trees as trees
 use Rattle.f77_ast.specs.DeclTrees.{DeclTree, implicit, integer, logical, dimension, parameter, common, equivalence, save, initial}
 use Rattle.f77_exprs.specs.Lexical.{letter_first}
-use Rattle.f77_statements.specs.Phrases.{PhraseTree, program, subroutine, specification, simple, block_if, else_if, else_part, end_if, do_head, end_do, end_module}
+use Rattle.f77_statements.specs.Phrases.{PhraseTree, program, subroutine, function, specification, simple, block_if, else_if, else_part, end_if, do_head, while_head, end_do, end_module}
 use Rattle.f77_statements.specs.Phrases as phrases
 use Rattle.f77_statements.specs.Statements.{phrase_of}
 use Rattle.f77_printer.specs.ExprText.{expr_text, exprs_text}
@@ -146,9 +148,15 @@ decl_starts (save []) = refl
 decl_starts (save (i ∷ is)) = refl
 decl_starts (initial gs) = refl
 
+function_starts : (form : FunctionForm) (n : List ℕ) (ds : List (List ℕ)) → starts (phrase_text (function form n ds)) ≡ true
+function_starts Plain n ds = refl
+function_starts Integer n ds = refl
+function_starts Logical n ds = refl
+
 phrase_starts : (p : PhraseTree) → IsPhrase p → starts (phrase_text p) ≡ true
 phrase_starts (program n) h = refl
 phrase_starts (subroutine n ds) h = refl
+phrase_starts (function form n ds) h = function_starts form n ds
 phrase_starts (specification d) h = decl_starts d
 phrase_starts (simple x) h = what_starts x h
 phrase_starts (phrases.logical_if e x) h = refl
@@ -157,6 +165,7 @@ phrase_starts (else_if e) h = refl
 phrase_starts else_part h = refl
 phrase_starts end_if h = refl
 phrase_starts (do_head d) h = refl
+phrase_starts (while_head l e) h = refl
 phrase_starts end_do h = refl
 phrase_starts end_module h = refl
 

@@ -10,7 +10,7 @@ use Rattle.f77_forms.specs.declared.outline.Marks.{Marks}
 use Rattle.f77_forms.specs.declared.outline.Marks.TheVariants.{NoEqual, Equal}
 use Rattle.f77_forms.specs.Words.{rest_after}
 use Rattle.f77_forms.specs.Outline.{front, is_outer, is_one_deep, has_comma, marks_of, rest_after_close}
-use Rattle.f77_forms.specs.Choice.{if_body, if_choice, keyword_choice, marked_choice}
+use Rattle.f77_forms.specs.Choice.{if_body, if_choice, marked_choice}
 use Rattle.f77_forms.specs.Profile.{profile}
 use Rattle.f77_statements.specs.Statements.{form_in, form_at}
 use Rattle.roundtrip_programs.specs.Statements.Formed.{IsName}
@@ -34,7 +34,7 @@ form_from body m form i e c =
     let x : marked_choice (marks_of front body) profile body ≡ Chosen form = ap (λ (n : Marks). marked_choice n profile body) e ∙ c in
     ap (λ (o : Option Choice). form_in (unwrap_or o (marked_choice (marks_of front body) profile body))) i ∙ ap form_in x
 
-pub by_keyword : (body : List ℕ) (form : FormId) → if_choice body ≡ None → Balanced listed body → keyword_choice profile body ≡ Chosen form → form_at body ≡ Ok form
+pub by_keyword : (body : List ℕ) (form : FormId) → if_choice body ≡ None → Balanced listed body → marked_choice NoEqual profile body ≡ Chosen form → form_at body ≡ Ok form
 by_keyword body form i b c = form_from body NoEqual form i (no_equal body b) c
 
 -- ---- one `=` stands outside

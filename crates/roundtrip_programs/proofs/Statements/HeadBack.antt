@@ -19,9 +19,9 @@ use Rattle.f77_forms.specs.Choice.{if_behind, marked_choice}
 use Rattle.f77_forms.specs.Profile.{profile}
 use Rattle.f77_statements.specs.declared.refusal.Cause.{Cause}
 use Rattle.f77_statements.specs.Lists.{ending}
-use Rattle.f77_statements.specs.Phrases.{DoTree, PhraseTree, block_if, else_if, do_head}
+use Rattle.f77_statements.specs.Phrases.{DoTree, PhraseTree, block_if, else_if, do_head, while_head}
 use Rattle.f77_statements.specs.Phrases as phrases
-use Rattle.f77_statements.specs.Statements.{form_in, form_at, if_test, block_if_statement, else_if_statement, what_of, what_at, logical_if_statement, terminal, some_step, step, range, do_statement}
+use Rattle.f77_statements.specs.Statements.{form_in, form_at, if_test, block_if_statement, else_if_statement, what_of, what_at, logical_if_statement, terminal, some_step, step, range, do_statement, while_statement}
 use Rattle.f77_printer.specs.ExprText.{expr_text, items_text}
 use Rattle.f77_printer.specs.StatementText.{what_text, step_text}
 use Rattle.f77_printer.specs.Layout.{stripped}
@@ -144,6 +144,21 @@ logical_back e w k f h =
     ap (λ (o : Option (ExprTree × State)). o >>= λ e. what_at e.1 >>= λ w. Some (phrases.logical_if e.0 w.0, w.1)) (test_back e (compact w) k f)
     ∙ ap (λ (x : Result FormId Cause). what_of x (standing (compact w) k) >>= λ r. Some (phrases.logical_if e r.0, r.1)) (what_form w h)
     ∙ ap (λ (o : Option (WhatTree × State)). o >>= λ r. Some (phrases.logical_if e r.0, r.1)) (what_back w k h)
+
+-- ---- DO WHILE
+
+pub stripped_while : (e : ExprTree) → IsExpression e → stripped false (codes "DO WHILE (" ++ expr_text e ++ codes ")") ≡ codes "DOWHILE(" ++ (expr_text e ++ codes ")")
+stripped_while e f = ap (λ (x : List ℕ). codes "DOWHILE(" ++ x) (tested e [] f)
+
+pub while_form : (e : ExprTree) → IsExpression e → form_at (codes "DOWHILE(" ++ (expr_text e ++ codes ")")) ≡ Ok forms.DoWhile
+while_form e f =
+    by_keyword (codes "DOWHILE(" ++ (expr_text e ++ codes ")")) forms.DoWhile refl
+    (pair listed (codes "DOWHILE") (40 ∷ (expr_text e ++ codes ")")) (word listed (codes "DOWHILE") refl) (nested listed (expr_text e) (expr_balanced f deep)))
+    refl
+
+pub while_back : (e : ExprTree) (k : Notes) → IsExpression e → while_statement (standing (codes "DOWHILE(" ++ (expr_text e ++ codes ")")) k) ≡ Some (while_head None e, standing [] k)
+unfolding while_statement terminal
+while_back e k f = ap (λ (o : Option (ExprTree × State)). o >>= λ e. Some (while_head None e.0, e.1)) (test_back e [] k f)
 
 -- ---- DO
 

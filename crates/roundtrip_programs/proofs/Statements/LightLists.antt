@@ -129,6 +129,13 @@ module _ (w : Weight) where
   unfolding items_left
   items_left-light one u h e s = end_light s [] (items one s) e (λ xs. e + parted (w.of 44) u xs) (omega arith) (items-light one u h e s)
 
+  -- in parentheses, with the closing one
+  pub closed-light : {A : Type 0} (one : Reader A) (u : A → ℕ) → Light w one u → Light w (in_parentheses one) (λ xs. parted (w.of 44) u xs + weigh w (codes ")"))
+  unfolding in_parentheses
+  closed-light one u h e s =
+      else_word w (codes ")") s (λ t. Some ([], t)) (ending (codes ")") (items one) s) e (λ xs. e + (parted (w.of 44) u xs + weigh w (codes ")"))) (λ r. omega arith)
+      (ending-light (codes ")") (items one) (parted (w.of 44) u) (items-light one u h) e s)
+
   -- in parentheses, where there are any
   abbrev pub wrapped : {A : Type 0} → (A → ℕ) → List A → ℕ
   wrapped u [] = 0

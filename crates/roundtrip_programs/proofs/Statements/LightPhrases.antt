@@ -1,6 +1,8 @@
 -- The text of a statement that is read, without its blanks, weighs no more than what was read.
 use Rattle.std.proofs.Common.{◌≡◌, ℕ, ◌+◌, ◌≤◌, List, [], ◌∷◌, ◌++◌, refl, ap, arith, Option, Some, None, Bool, true, false, if◌then◌else◌, decimal}
 use Rattle.std.specs.Prelude.{codes, Result, Ok, Err}
+use Rattle.f77_ast.specs.declared.module.FunctionForm.{FunctionForm}
+use Rattle.f77_ast.specs.declared.module.FunctionForm.TheVariants.{Plain, Integer, Logical}
 use Rattle.f77_ast.specs.Trees.{ExprTree, WhatTree}
 use Rattle.f77_ast.specs.DeclTrees.{DeclTree}
 use Rattle.f77_exprs.specs.State.{State, start, Reader, ◌>>=◌}
@@ -9,12 +11,12 @@ use Rattle.f77_exprs.specs.Grammar.{expression}
 use Rattle.f77_forms.specs.declared.form.FormId.{FormId}
 use Rattle.f77_forms.specs.declared.form.FormId.TheVariants as forms
 use Rattle.f77_statements.specs.declared.refusal.Cause.{Cause}
-use Rattle.f77_statements.specs.Lists.{skip_comma, maybe_in_parentheses}
-use Rattle.f77_statements.specs.Phrases.{PhraseTree, program, subroutine, specification, simple, block_if, else_if, else_part, end_if, do_head, end_do, end_module}
+use Rattle.f77_statements.specs.Lists.{skip_comma, in_parentheses, maybe_in_parentheses}
+use Rattle.f77_statements.specs.Phrases.{PhraseTree, program, subroutine, function, specification, simple, block_if, else_if, else_part, end_if, do_head, while_head, end_do, end_module}
 use Rattle.f77_statements.specs.Phrases as phrases
 use Rattle.f77_statements.specs.Specifications.{implicit_statement, integer_statement, logical_statement, dimension_statement, parameter_statement, common_statement, equivalence_statement, save_statement, data_statement}
 use Rattle.f77_statements.specs.Executables.{assignment, call_statement, goto_statement, continue_statement, return_statement, stop_statement, print_statement, write_statement, read_statement}
-use Rattle.f77_statements.specs.Statements.{program_statement, subroutine_statement, if_test, block_if_statement, else_if_statement, form_at, what_of, what_at, logical_if_statement, terminal, some_step, step, range, do_statement, alone, specified, simply, phrase_by, phrase_in, phrase_of}
+use Rattle.f77_statements.specs.Statements.{program_statement, subroutine_statement, function_statement, if_test, block_if_statement, else_if_statement, form_at, what_of, what_at, logical_if_statement, terminal, some_step, step, range, do_statement, while_statement, alone, specified, simply, phrase_by, phrase_in, phrase_of}
 use Rattle.f77_printer.specs.ExprText.{expr_text}
 use Rattle.f77_printer.specs.Layout.{stripped}
 use Rattle.f77_printer.specs.DeclText.{joined_by}
@@ -25,11 +27,11 @@ use Rattle.f77_printer.specs.ModuleText.{dummies_text}
 use Rattle.roundtrip_programs.specs.Statements.Weights.{Weight, weigh}
 use Rattle.roundtrip_programs.proofs.Statements.Readings.{After}
 use Rattle.roundtrip_programs.proofs.Statements.Compact.{compact, stripped_what}
-use Rattle.roundtrip_programs.proofs.Statements.HeadBack.{compact_head, stripped_block, stripped_else, stripped_logical, stripped_head}
-use Rattle.roundtrip_programs.proofs.Statements.TitleBack.{stripped_program, stripped_subroutine}
+use Rattle.roundtrip_programs.proofs.Statements.HeadBack.{compact_head, stripped_block, stripped_else, stripped_logical, stripped_head, stripped_while}
+use Rattle.roundtrip_programs.proofs.Statements.TitleBack.{stripped_program, stripped_subroutine, compact_word, enclosed, stripped_function}
 use Rattle.roundtrip_programs.proofs.Statements.Verdicts.{clean, verdict_given}
 use Rattle.roundtrip_programs.proofs.Statements.Weighing.{weigh-append, Within, Light, then_read, then_word, done_word}
-use Rattle.roundtrip_programs.proofs.Statements.LightLists.{wrapped, ew, joined_weight, ending-light, maybe_enclosed-light}
+use Rattle.roundtrip_programs.proofs.Statements.LightLists.{parted, wrapped, ew, joined_weight, ending-light, closed-light, maybe_enclosed-light}
 use Rattle.roundtrip_programs.proofs.Statements.LightNumbers.{name-light, label-light}
 use Rattle.roundtrip_programs.proofs.Statements.LightExprs.{expression_light}
 use Rattle.roundtrip_programs.proofs.Statements.LightWhat.{cw, what_light}
@@ -40,6 +42,7 @@ use Rattle.roundtrip_programs.proofs.Statements.LightDecls.{compact_decl, stripp
 abbrev pub compact_phrase : PhraseTree → List ℕ
 compact_phrase (program n) = codes "PROGRAM" ++ n
 compact_phrase (subroutine n ds) = codes "SUBROUTINE" ++ (n ++ dummies_text ds)
+compact_phrase (function form n ds) = compact_word form ++ (n ++ enclosed ds)
 compact_phrase (specification d) = compact_decl d
 compact_phrase (simple x) = compact x
 compact_phrase (phrases.logical_if e x) = codes "IF(" ++ (expr_text e ++ (41 ∷ compact x))
@@ -48,12 +51,14 @@ compact_phrase (else_if e) = codes "ELSEIF(" ++ (expr_text e ++ (41 ∷ codes "T
 compact_phrase else_part = codes "ELSE"
 compact_phrase end_if = codes "ENDIF"
 compact_phrase (do_head d) = compact_head d
+compact_phrase (while_head l e) = codes "DOWHILE(" ++ (expr_text e ++ codes ")")
 compact_phrase end_do = codes "ENDDO"
 compact_phrase end_module = codes "END"
 
 pub stripped_phrase : (p : PhraseTree) → IsPhrase p → stripped false (phrase_text p) ≡ compact_phrase p
 stripped_phrase (program n) h = stripped_program n h
 stripped_phrase (subroutine n ds) h = stripped_subroutine n ds h.name h.dummies
+stripped_phrase (function form n ds) h = stripped_function form n ds h.name h.dummies
 stripped_phrase (specification d) h = stripped_decl d h
 stripped_phrase (simple x) h = stripped_what x h
 stripped_phrase (phrases.logical_if e x) h = stripped_logical e x h.test h.inner
@@ -62,6 +67,7 @@ stripped_phrase (else_if e) h = stripped_else e h
 stripped_phrase else_part h = refl
 stripped_phrase end_if h = refl
 stripped_phrase (do_head d) h = stripped_head d h
+stripped_phrase (while_head l e) h = stripped_while e h
 stripped_phrase end_do h = refl
 stripped_phrase end_module h = refl
 
@@ -84,6 +90,20 @@ module _ (w : Weight) where
       (λ r. then_read w name_at (weigh w) _ (record s { rest = r }) _ (λ p. e + hw p) (name-light w)
       (λ n. then_read w (maybe_in_parentheses name_at) (wrapped w (weigh w)) _ n.1 _ (λ p. e + hw p) (maybe_enclosed-light w name_at (weigh w) (name-light w))
       (λ ds. omega (arith, weigh-append w n.0 (dummies_text ds.0), dummies_weight ds.0))))
+
+  function_weight : (form : FunctionForm) (n : List ℕ) (ds : List (List ℕ))
+      → hw (function form n ds) ≡ weigh w (compact_word form) + (weigh w n + (w.of 40 + (parted (w.of 44) (weigh w) ds + w.of 41)))
+  function_weight form n ds =
+      omega (arith, weigh-append w (compact_word form) (n ++ enclosed ds), weigh-append w n (enclosed ds), weigh-append w (joined_by (λ d. d) ds) (codes ")"), joined_weight w (λ d. d) ds)
+
+  function-light : (form : FunctionForm) → Light w (function_statement (compact_word form) form) hw
+  unfolding function_statement
+  function-light form e s =
+      then_word w (compact_word form) s _ e (λ p. e + hw p)
+      (λ r. then_read w name_at (weigh w) _ (record s { rest = r }) _ (λ p. e + hw p) (name-light w)
+      (λ n. then_word w (codes "(") n.1 _ _ (λ p. e + hw p)
+      (λ q. then_read w (in_parentheses name_at) (λ ds. parted (w.of 44) (weigh w) ds + weigh w (codes ")")) _ (record n.1 { rest = q }) _ (λ p. e + hw p) (closed-light w name_at (weigh w) (name-light w))
+      (λ ds. omega (arith, function_weight form n.0 ds.0)))))
 
   test-light : Light w if_test (λ x. ew w x + weigh w (codes ")"))
   unfolding if_test
@@ -154,6 +174,15 @@ module _ (w : Weight) where
       then_word w (codes "DO") s _ e (λ p. e + hw p)
       (λ r. then_read w terminal (λ x. 0) _ (record s { rest = r }) (e + weigh w (codes "DO")) (λ p. e + hw p) terminal-light (λ l. range-light l.0 e l.1))
 
+  while-light : Light w while_statement hw
+  unfolding while_statement
+  while-light e s =
+      then_word w (codes "DO") s _ e (λ p. e + hw p)
+      (λ r. then_read w terminal (λ x. 0) _ (record s { rest = r }) (e + weigh w (codes "DO")) (λ p. e + hw p) terminal-light
+      (λ l. then_word w (codes "WHILE(") l.1 _ _ (λ p. e + hw p)
+      (λ q. then_read w if_test (λ x. ew w x + weigh w (codes ")")) _ (record l.1 { rest = q }) _ (λ p. e + hw p) test-light
+      (λ x. omega (arith, weigh-append w (expr_text x.0) (codes ")"))))))
+
   -- ---- each form
 
   alone-light : (word : List ℕ) (p : PhraseTree) → hw p ≤ weigh w word → Light w (alone word p) hw
@@ -171,6 +200,9 @@ module _ (w : Weight) where
   form_light : (form : FormId) → Light w (phrase_by form) hw
   form_light forms.Program = program-light
   form_light forms.Subroutine = subroutine-light
+  form_light forms.Function = function-light Plain
+  form_light forms.IntegerFunction = function-light Integer
+  form_light forms.LogicalFunction = function-light Logical
   form_light forms.Implicit = specified-light implicit_statement (implicit_light w)
   form_light forms.Integer = specified-light integer_statement (integer_light w)
   form_light forms.Logical = specified-light logical_statement (logical_light w)
@@ -187,6 +219,7 @@ module _ (w : Weight) where
   form_light forms.Else = alone-light (codes "ELSE") else_part (omega arith)
   form_light forms.EndIf = alone-light (codes "ENDIF") end_if (omega arith)
   form_light forms.Do = do-light
+  form_light forms.DoWhile = while-light
   form_light forms.EndDo = alone-light (codes "ENDDO") end_do (omega arith)
   form_light forms.Continue = simply-light continue_statement (what_light w forms.Continue)
   form_light forms.Return = simply-light return_statement (what_light w forms.Return)

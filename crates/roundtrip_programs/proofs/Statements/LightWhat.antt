@@ -1,7 +1,7 @@
 -- The text of an executable statement that is read, without its blanks, weighs no more than what was read.
 use Rattle.std.proofs.Common.{◌≡◌, ℕ, ◌+◌, ◌≤◌, List, [], ◌∷◌, ◌++◌, length, refl, ap, sym, ◌∙◌, arith, append_assoc, Option, Some, None, Bool, true, false, if◌then◌else◌, decimal}
 use Rattle.std.specs.Prelude.{codes, nat_le, ◌&&◌, option_map}
-use Rattle.f77_ast.specs.Trees.{ExprTree, WhatTree}
+use Rattle.f77_ast.specs.Trees.{ExprTree, element, no_exprs, WhatTree}
 use Rattle.f77_ast.specs.Plain.{exprs_of}
 use Rattle.f77_exprs.specs.Words.{before, after}
 use Rattle.f77_exprs.specs.State.{State, or_else, ◌>>=◌}
@@ -10,12 +10,12 @@ use Rattle.f77_exprs.specs.Grammar.{expression, variable}
 use Rattle.f77_forms.specs.declared.form.FormId.{FormId}
 use Rattle.f77_forms.specs.declared.form.FormId.TheVariants as forms
 use Rattle.f77_statements.specs.Lists.{items_left, maybe_in_parentheses, maybe_after_comma}
-use Rattle.f77_statements.specs.Executables.{assignment, call_statement, goto_statement, continue_statement, return_statement, five_digits, message, stop_text, stop_statement, print_statement, write_list, write_statement, read_listed, read_left, read_statement}
+use Rattle.f77_statements.specs.Executables.{at_end, empty_call, or_other, right_side, assignment, call_statement, goto_statement, continue_statement, return_statement, five_digits, message, stop_text, stop_statement, print_statement, write_list, write_statement, read_listed, read_left, read_statement}
 use Rattle.f77_statements.specs.Statements.{what_by}
 use Rattle.f77_printer.specs.ExprText.{exprs_text, doubled}
 use Rattle.f77_printer.specs.StatementText.{actuals_text}
 use Rattle.roundtrip_programs.specs.Statements.Weights.{Weight, weigh}
-use Rattle.roundtrip_programs.proofs.Statements.Compact.{compact, message_of}
+use Rattle.roundtrip_programs.proofs.Statements.Compact.{compact, empty_text, message_of}
 use Rattle.roundtrip_programs.proofs.Statements.StopFormed.{Splits, constant_splits}
 use Rattle.roundtrip_programs.proofs.Statements.TypedFormed.{splits}
 use Rattle.roundtrip_programs.proofs.Statements.Weighing.{weigh-append, Within, Light, widen, then_read, then_word, else_word}
@@ -27,12 +27,34 @@ module _ (w : Weight) where
   abbrev pub cw : WhatTree → ℕ
   cw x = weigh w (compact x)
 
+  other_light : {A : Type 0} (o other : Option (A × State)) (b : ℕ) (v : A → ℕ) → Within w o b v → Within w other b v → Within w (or_other o other) b v
+  other_light None other b v h g = g
+  other_light (Some r) other b v h g = h
+
+  last_light : (t : List ℕ) (x : ExprTree) (s : State) (b : ℕ) (v : ExprTree → ℕ) → v x + weigh w s.rest ≤ b → Within w (at_end x s t) b v
+  last_light [] x s b v h = h
+  last_light (c ∷ cs) x s b v h = tt
+
+  empty_weight : (n : List ℕ) → ew w (element n no_exprs) ≡ weigh w n + weigh w (codes "()")
+  empty_weight n = ap (weigh w) (empty_text n) ∙ weigh-append w n (codes "()")
+
+  empty-light : Light w empty_call (ew w)
+  unfolding empty_call
+  empty-light e s =
+      then_read w name_at (weigh w) _ s e (λ x. e + ew w x) (name-light w)
+      (λ n. then_word w (codes "()") n.1 _ _ (λ x. e + ew w x)
+      (λ r. last_light r (element n.0 no_exprs) (record n.1 { rest = r }) _ (λ x. e + ew w x) (omega (arith, empty_weight n.0))))
+
+  right-light : Light w right_side (ew w)
+  unfolding right_side
+  right-light e s = other_light (expression s) (empty_call s) (e + weigh w s.rest) (λ x. e + ew w x) (expression_light w e s) (empty-light e s)
+
   assignment-light : Light w assignment cw
   unfolding assignment
   assignment-light e s =
       then_read w variable (ew w) _ s e (λ x. e + cw x) (variable_light w)
       (λ v. then_word w (codes "=") v.1 _ _ (λ x. e + cw x)
-      (λ r. then_read w expression (ew w) _ (record v.1 { rest = r }) _ (λ x. e + cw x) (expression_light w)
+      (λ r. then_read w right_side (ew w) _ (record v.1 { rest = r }) _ (λ x. e + cw x) right-light
       (λ x. simp (weigh-append w) (omega arith))))
 
   actuals_weight : (xs : List ExprTree) → weigh w (actuals_text (exprs_of xs)) ≡ wrapped w (ew w) xs

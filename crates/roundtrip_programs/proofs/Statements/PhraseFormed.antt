@@ -1,6 +1,7 @@
 -- What the grammar of statements gives without a cause to refuse it is formed as it says.
-use Rattle.std.proofs.Common.{◌≡◌, ℕ, ◌<◌, List, refl, subst, Option, Some, None, Bool, true, false, if◌then◌else◌}
-use Rattle.std.specs.Prelude.{codes, option_map, Result, Ok, Err}
+use Rattle.std.proofs.Common.{ℕ, ◌<◌, List, subst, Option, Some, None, Bool, true, false, if◌then◌else◌}
+use Rattle.std.specs.Prelude.{codes, Result, Ok, Err}
+use Rattle.f77_ast.specs.declared.module.FunctionForm.{FunctionForm}
 use Rattle.f77_ast.specs.Trees.{ExprTree, WhatTree}
 use Rattle.f77_exprs.specs.declared.at.Notes.{Notes}
 use Rattle.f77_exprs.specs.Words.{after}
@@ -9,10 +10,10 @@ use Rattle.f77_exprs.specs.Lexical.{name_at, label_at, digit_first}
 use Rattle.f77_exprs.specs.Grammar.{expression}
 use Rattle.f77_forms.specs.declared.form.FormId.{FormId}
 use Rattle.f77_statements.specs.declared.refusal.Cause.{Cause}
-use Rattle.f77_statements.specs.Lists.{past, skip_comma, maybe_in_parentheses}
-use Rattle.f77_statements.specs.Phrases.{PhraseTree, program, subroutine, block_if, else_if, do_head}
+use Rattle.f77_statements.specs.Lists.{skip_comma, in_parentheses, maybe_in_parentheses}
+use Rattle.f77_statements.specs.Phrases.{PhraseTree, program, subroutine, function, block_if, else_if, do_head, while_head}
 use Rattle.f77_statements.specs.Phrases as phrases
-use Rattle.f77_statements.specs.Statements.{program_statement, subroutine_statement, if_test, block_if_statement, else_if_statement, what_of, what_at, form_at, logical_if_statement, terminal, some_step, step, range, do_statement, alone, simply}
+use Rattle.f77_statements.specs.Statements.{program_statement, subroutine_statement, function_statement, if_test, block_if_statement, else_if_statement, what_of, what_at, form_at, logical_if_statement, terminal, some_step, step, range, do_statement, while_statement, alone, simply}
 use Rattle.roundtrip_programs.specs.Statements.Formed.{IsName, Each, IsExpression}
 use Rattle.roundtrip_programs.specs.Statements.Declared.{MaybeExpression}
 use Rattle.roundtrip_programs.specs.Statements.Phrased.{IsWhat, IsPhrase}
@@ -21,7 +22,7 @@ use Rattle.roundtrip_programs.proofs.Statements.Readings.{After, Sound, seq, the
 use Rattle.roundtrip_programs.proofs.Statements.Names.{name-formed}
 use Rattle.roundtrip_programs.proofs.Statements.Numbers.{label-formed}
 use Rattle.roundtrip_programs.proofs.Statements.Formation.{expression-formed}
-use Rattle.roundtrip_programs.proofs.Statements.WhatFormed.{ending-sound, maybe_enclosed-sound, what-formed}
+use Rattle.roundtrip_programs.proofs.Statements.WhatFormed.{ending-sound, enclosed-sound, maybe_enclosed-sound, what-formed}
 use Rattle.roundtrip_programs.proofs.Statements.PartsFormed.{past_kept}
 
 pub program-formed : Sound program_statement IsPhrase
@@ -38,6 +39,17 @@ subroutine-formed s =
     seq (name_at t) (λ n. maybe_in_parentheses name_at n.1 >>= λ ds. Some (subroutine n.0 ds.0, ds.1)) s.notes IsName IsPhrase (name-formed t)
     (λ n. seq (maybe_in_parentheses name_at n.1) (λ ds. Some (subroutine n.0 ds.0, ds.1)) n.1.notes (Each IsName) (λ p. IsName n.0 → IsPhrase p) (maybe_enclosed-sound name_at IsName name-formed n.1)
     (λ ds c. (c, λ e h. record { name = h; dummies = e }))))
+
+pub function-formed : (word : List ℕ) (form : FunctionForm) → Sound (function_statement word form) IsPhrase
+unfolding function_statement
+function-formed word form s =
+    then_word word s (λ t. name_at t >>= λ n. parse_word (codes "(") n.1 >>= λ u. in_parentheses name_at u >>= λ ds. Some (function form n.0 ds.0, ds.1)) IsPhrase
+    (λ r. let t : State = record s { rest = r } in
+    seq (name_at t) (λ n. parse_word (codes "(") n.1 >>= λ u. in_parentheses name_at u >>= λ ds. Some (function form n.0 ds.0, ds.1)) s.notes IsName IsPhrase (name-formed t)
+    (λ n. then_word (codes "(") n.1 (λ u. in_parentheses name_at u >>= λ ds. Some (function form n.0 ds.0, ds.1)) (λ p. IsName n.0 → IsPhrase p)
+    (λ q. let u : State = record n.1 { rest = q } in
+    seq (in_parentheses name_at u) (λ ds. Some (function form n.0 ds.0, ds.1)) n.1.notes (Each IsName) (λ p. IsName n.0 → IsPhrase p) (enclosed-sound name_at IsName name-formed u)
+    (λ ds c. (c, λ e h. record { name = h; dummies = e })))))
 
 test-sound : Sound if_test IsExpression
 unfolding if_test
@@ -121,6 +133,16 @@ do-formed s =
     (λ r. let t : State = record s { rest = r } in
     seq (terminal t) (λ l. range l.0 l.1) s.notes (λ x. Unit {0}) IsPhrase (terminal-sound t)
     (λ l. weaken (range l.0 l.1) l.1.notes IsPhrase (λ p. Unit {0} → IsPhrase p) (range-formed l.0 l.1) (λ p h u. h)))
+
+pub while-formed : Sound while_statement IsPhrase
+unfolding while_statement
+while-formed s =
+    then_word (codes "DO") s (λ t. terminal t >>= λ l. parse_word (codes "WHILE(") l.1 >>= λ u. if_test u >>= λ e. Some (while_head l.0 e.0, e.1)) IsPhrase
+    (λ r. let t : State = record s { rest = r } in
+    seq (terminal t) (λ l. parse_word (codes "WHILE(") l.1 >>= λ u. if_test u >>= λ e. Some (while_head l.0 e.0, e.1)) s.notes (λ x. Unit {0}) IsPhrase (terminal-sound t)
+    (λ l. then_word (codes "WHILE(") l.1 (λ u. if_test u >>= λ e. Some (while_head l.0 e.0, e.1)) (λ p. Unit {0} → IsPhrase p)
+    (λ q. let u : State = record l.1 { rest = q } in
+    seq (if_test u) (λ e. Some (while_head l.0 e.0, e.1)) l.1.notes IsExpression (λ p. Unit {0} → IsPhrase p) (test-sound u) (λ e c. (c, λ h v. h)))))
 
 -- ---- words alone, and executable statements
 

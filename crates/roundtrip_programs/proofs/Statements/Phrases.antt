@@ -1,6 +1,7 @@
 -- Statements are formed as the grammar says, and are read back.
 use Rattle.std.proofs.Common.{◌≡◌, ℕ, List, refl}
 use Rattle.std.specs.Prelude.{codes, Result, Ok, Err}
+use Rattle.f77_ast.specs.declared.module.FunctionForm.TheVariants.{Plain, Integer, Logical}
 use Rattle.f77_exprs.specs.State.{start}
 use Rattle.f77_forms.specs.declared.form.FormId.{FormId}
 use Rattle.f77_forms.specs.declared.form.FormId.TheVariants as forms
@@ -13,7 +14,7 @@ use Rattle.roundtrip_programs.specs.Statements.Phrased.{IsPhrase}
 use Rattle.roundtrip_programs.specs.Statements.Laws.{StatementsReadBack}
 use Rattle.roundtrip_programs.proofs.Statements.Readings.{After}
 use Rattle.roundtrip_programs.proofs.Statements.WhatFormed.{what-formed}
-use Rattle.roundtrip_programs.proofs.Statements.PhraseFormed.{program-formed, subroutine-formed, block-formed, else-formed, logical-formed, do-formed, alone-formed, simply-formed}
+use Rattle.roundtrip_programs.proofs.Statements.PhraseFormed.{program-formed, subroutine-formed, function-formed, block-formed, else-formed, logical-formed, do-formed, while-formed, alone-formed, simply-formed}
 use Rattle.roundtrip_programs.proofs.Statements.TypedFormed.{integer-formed, logical-formed as logicals-formed}
 use Rattle.roundtrip_programs.proofs.Statements.DeclFormed.{implicit-formed, dimension-formed, parameter-formed, common-formed, equivalence-formed, save-formed, data-formed, specified-at}
 use Rattle.roundtrip_programs.proofs.Statements.Verdicts.{clean, verdict_given}
@@ -24,6 +25,9 @@ use Rattle.roundtrip_programs.proofs.Statements.Closed.{phrase_closed, phrase_li
 form-formed : (form : FormId) (body : List ℕ) → form_at body ≡ Ok form → After (phrase_by form (start body)) clean IsPhrase
 form-formed forms.Program body h = program-formed (start body)
 form-formed forms.Subroutine body h = subroutine-formed (start body)
+form-formed forms.Function body h = function-formed (codes "FUNCTION") Plain (start body)
+form-formed forms.IntegerFunction body h = function-formed (codes "INTEGERFUNCTION") Integer (start body)
+form-formed forms.LogicalFunction body h = function-formed (codes "LOGICALFUNCTION") Logical (start body)
 form-formed forms.Implicit body h = specified-at implicit_statement (start body) (implicit-formed (start body))
 form-formed forms.Integer body h = specified-at integer_statement (start body) (integer-formed body h)
 form-formed forms.Logical body h = specified-at logical_statement (start body) (logicals-formed body h)
@@ -40,6 +44,7 @@ form-formed forms.ElseIf body h = else-formed (start body)
 form-formed forms.Else body h = alone-formed (codes "ELSE") else_part tt (start body)
 form-formed forms.EndIf body h = alone-formed (codes "ENDIF") end_if tt (start body)
 form-formed forms.Do body h = do-formed (start body)
+form-formed forms.DoWhile body h = while-formed (start body)
 form-formed forms.EndDo body h = alone-formed (codes "ENDDO") end_do tt (start body)
 form-formed forms.Continue body h = simply-formed continue_statement (what-formed forms.Continue) (start body)
 form-formed forms.Return body h = simply-formed return_statement (what-formed forms.Return) (start body)

@@ -9,8 +9,7 @@ use Rattle.f77_exprs.specs.Lexical.{name_at, skip_name}
 use Rattle.f77_exprs.specs.Grammar.{comma, items, items_by, more_by}
 use Rattle.f77_forms.specs.Words.{rest_after}
 use Rattle.f77_forms.specs.declared.form.FormId.TheVariants as forms
-use Rattle.f77_forms.specs.declared.choice.Choice.TheVariants.{OutOfProfile}
-use Rattle.f77_forms.specs.declared.refused.Refused.TheVariants.{IntegerFunction, LogicalFunction}
+use Rattle.f77_forms.specs.declared.choice.Choice.TheVariants.{Chosen}
 use Rattle.f77_forms.specs.declared.outline.Marks.{Marks}
 use Rattle.f77_forms.specs.declared.outline.Marks.TheVariants.{NoEqual, Equal, EqualAndComma}
 use Rattle.f77_forms.specs.Outline.{front, marks_of}
@@ -53,7 +52,7 @@ front_lacks (x ∷ xs) (c ∷ cs) u h = front_at (nat_eq c x) (after xs (cs ++ u
 integer_by : (m : Marks) (o : Option (List ℕ)) (x : List ℕ) → rest_after (codes "FUNCTION") x ≡ o → form_in (marked_choice m profile (codes "INTEGER" ++ x)) ≡ Ok forms.Integer → o ≡ None
 integer_by NoEqual None x e h = refl
 integer_by NoEqual (Some y) x e h =
-    let c : keyword_choice profile (codes "INTEGER" ++ x) ≡ OutOfProfile IntegerFunction = rw e refl in
+    let c : keyword_choice profile (codes "INTEGER" ++ x) ≡ Chosen forms.IntegerFunction = rw e refl in
     let d = sym (ap form_in c) ∙ h in cc
 integer_by Equal o x e h = cc
 integer_by EqualAndComma o x e h = cc
@@ -65,7 +64,7 @@ integer_alone x h = sym (same_word (codes "FUNCTION") x) ∙ integer_by (marks_o
 logical_by : (m : Marks) (o : Option (List ℕ)) (x : List ℕ) → rest_after (codes "FUNCTION") x ≡ o → form_in (marked_choice m profile (codes "LOGICAL" ++ x)) ≡ Ok forms.Logical → o ≡ None
 logical_by NoEqual None x e h = refl
 logical_by NoEqual (Some y) x e h =
-    let c : keyword_choice profile (codes "LOGICAL" ++ x) ≡ OutOfProfile LogicalFunction = rw e refl in
+    let c : keyword_choice profile (codes "LOGICAL" ++ x) ≡ Chosen forms.LogicalFunction = rw e refl in
     let d = sym (ap form_in c) ∙ h in cc
 logical_by Equal o x e h = cc
 logical_by EqualAndComma o x e h = cc

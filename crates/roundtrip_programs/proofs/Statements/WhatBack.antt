@@ -10,32 +10,33 @@ use Rattle.f77_exprs.specs.State.{State, parse_word, ◌>>=◌}
 use Rattle.f77_exprs.specs.Lexical.{digit_first, skip_digits, name_at, label_at}
 use Rattle.f77_exprs.specs.Grammar.{expression}
 use Rattle.f77_statements.specs.Lists.{or_end, in_parentheses, maybe_in_parentheses}
-use Rattle.f77_statements.specs.Executables.{assignment, call_statement, goto_statement, continue_statement, return_statement, five_digits, message, stop_text, stop_statement, print_statement, read_listed, read_statement}
+use Rattle.f77_statements.specs.Executables.{right_side, assignment, call_statement, goto_statement, continue_statement, return_statement, five_digits, message, stop_text, stop_statement, print_statement, read_listed, read_statement}
 use Rattle.f77_statements.specs.Statements.{what_by}
 use Rattle.f77_printer.specs.ExprText.{expr_text, items_text, doubled}
 use Rattle.f77_printer.specs.StatementText.{actuals_text}
 use Rattle.f77_printer.specs.DeclText.{joined_by}
 use Rattle.roundtrip_programs.specs.Statements.Formed.{IsName, AllFormed, more, none, IsExpression, IsVariable}
-use Rattle.roundtrip_programs.specs.Statements.Phrased.{IsMessage, digits, IsWhat}
+use Rattle.roundtrip_programs.specs.Statements.Phrased.{IsRight, IsMessage, digits, IsWhat}
 use Rattle.roundtrip_programs.specs.Statements.Phrased as phrased
 use Rattle.roundtrip_programs.specs.Statements.Follows.{standing}
 use Rattle.roundtrip_programs.proofs.Statements.Names.{name-back, before-append}
 use Rattle.roundtrip_programs.proofs.Statements.Numbers.{label-back}
 use Rattle.roundtrip_programs.proofs.Statements.Constants.{constant-back}
-use Rattle.roundtrip_programs.proofs.Statements.Behind.{BehindEquivalence, at_close, at_end, calm_equal}
+use Rattle.roundtrip_programs.proofs.Statements.Behind.{BehindEquivalence, at_close, calm_equal}
 use Rattle.roundtrip_programs.proofs.Statements.Fronts.{digit_no_word, fronted}
 use Rattle.roundtrip_programs.proofs.Statements.Operands.{list_of, items-text, exprs_of-list}
-use Rattle.roundtrip_programs.proofs.Statements.Expressions.{expression-back, variable-back}
-use Rattle.roundtrip_programs.proofs.Statements.ListsBack.{back_end, enclosed_back, expressions_listed, each_formed, expressions_left, variables_left}
+use Rattle.roundtrip_programs.proofs.Statements.Expressions.{variable-back}
+use Rattle.roundtrip_programs.proofs.Statements.RightBack.{right_back}
+use Rattle.roundtrip_programs.proofs.Statements.ListsBack.{enclosed_back, expressions_listed, each_formed, expressions_left, variables_left}
 use Rattle.roundtrip_programs.proofs.Statements.Compact.{compact, message_of}
 use Rattle.roundtrip_programs.proofs.Statements.WhatForms.{form_of_what}
 
-assign_back : (v e : ExprTree) (k : Notes) → IsVariable v → IsExpression e → assignment (standing (expr_text v ++ (61 ∷ expr_text e)) k) ≡ Some (assign v e, standing [] k)
+assign_back : (v e : ExprTree) (k : Notes) → IsVariable v → IsRight e → assignment (standing (expr_text v ++ (61 ∷ expr_text e)) k) ≡ Some (assign v e, standing [] k)
 unfolding assignment
 assign_back v e k h g =
-    ap (λ (o : Option (ExprTree × State)). o >>= λ v. parse_word (codes "=") v.1 >>= λ t. expression t >>= λ e. Some (assign v.0 e.0, e.1))
+    ap (λ (o : Option (ExprTree × State)). o >>= λ v. parse_word (codes "=") v.1 >>= λ t. right_side t >>= λ e. Some (assign v.0 e.0, e.1))
     (variable-back v h (61 ∷ expr_text e) k (calm_equal (expr_text e)))
-    ∙ ap (λ (o : Option (ExprTree × State)). o >>= λ r. Some (assign v r.0, r.1)) (back_end expression (expr_text e) e BehindEquivalence (expression-back e g) at_end k)
+    ∙ ap (λ (o : Option (ExprTree × State)). o >>= λ r. Some (assign v r.0, r.1)) (right_back g k)
 
 no_close : (e : ExprTree) (u : List ℕ) → IsExpression e → after (codes ")") (expr_text e ++ u) ≡ None
 no_close e u f = (fronted f).close u

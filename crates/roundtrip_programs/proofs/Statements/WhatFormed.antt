@@ -1,18 +1,20 @@
 -- What the grammar of executable statements gives without a cause to refuse it is formed as it says.
 use Rattle.std.proofs.Common.{ℕ, ◌<◌, List, [], ◌∷◌, Option, Some, None}
 use Rattle.std.specs.Prelude.{codes}
-use Rattle.f77_ast.specs.Trees.{ExprTree, assign, call, goto, continue, return, stop, print, read}
+use Rattle.f77_ast.specs.Trees.{ExprTree, element, no_exprs, assign, call, goto, continue, return, stop, print, read}
 use Rattle.f77_ast.specs.Plain.{exprs_of}
+use Rattle.f77_exprs.specs.declared.at.Notes.{Notes}
 use Rattle.f77_exprs.specs.State.{State, Reader, parse_word, ◌>>=◌}
 use Rattle.f77_exprs.specs.Lexical.{name_at, label_at}
 use Rattle.f77_exprs.specs.Grammar.{comma, items, expression, variable}
 use Rattle.f77_forms.specs.declared.form.FormId.{FormId}
 use Rattle.f77_forms.specs.declared.form.FormId.TheVariants as forms
 use Rattle.f77_statements.specs.Lists.{or_end, ending, items_left, in_parentheses, maybe_in_parentheses, maybe_after_comma}
-use Rattle.f77_statements.specs.Executables.{assignment, call_statement, goto_statement, continue_statement, return_statement, stop_text, stop_statement, print_statement, write_list, write_statement, read_listed, read_left, read_statement}
+use Rattle.f77_statements.specs.Executables.{at_end, empty_call, or_other, right_side, assignment, call_statement, goto_statement, continue_statement, return_statement, stop_text, stop_statement, print_statement, write_list, write_statement, read_listed, read_left, read_statement}
 use Rattle.f77_statements.specs.Statements.{what_by}
 use Rattle.roundtrip_programs.specs.Statements.Formed.{IsName, IsExpression, IsVariable}
-use Rattle.roundtrip_programs.specs.Statements.Phrased.{AllVariables, MaybeMessage, IsWhat}
+use Rattle.roundtrip_programs.specs.Statements.Phrased.{AllVariables, IsRight, MaybeMessage, IsWhat}
+use Rattle.roundtrip_programs.specs.Statements.Phrased as phrased
 use Rattle.roundtrip_programs.proofs.Statements.Readings.{After, Sound, seq, then_word, else_word, done_word, weaken}
 use Rattle.roundtrip_programs.proofs.Statements.Names.{name-formed}
 use Rattle.roundtrip_programs.proofs.Statements.Numbers.{label-formed}
@@ -62,13 +64,33 @@ all_variables (x ∷ xs) h = record { first = h.first; others = all_variables xs
 
 -- ---- statements
 
+other_at : {A : Type 0} (o other : Option (A × State)) (k : Notes) (P : A → Type 0) → After o k P → After other k P → After (or_other o other) k P
+other_at None other k P h g = g
+other_at (Some r) other k P h g = h
+
+end-formed : (t : List ℕ) (e : ExprTree) (s : State) (P : ExprTree → Type 0) → P e → After (at_end e s t) s.notes P
+end-formed [] e s P p = λ c. (c, p)
+end-formed (x ∷ xs) e s P p = tt
+
+empty_call-formed : Sound empty_call IsRight
+unfolding empty_call
+empty_call-formed s =
+    seq (name_at s) (λ n. parse_word (codes "()") n.1 >>= λ t. at_end (element n.0 no_exprs) t t.rest) s.notes IsName IsRight (name-formed s)
+    (λ n. then_word (codes "()") n.1 (λ t. at_end (element n.0 no_exprs) t t.rest) (λ e. IsName n.0 → IsRight e)
+    (λ r. end-formed r (element n.0 no_exprs) (record n.1 { rest = r }) (λ e. IsName n.0 → IsRight e) (λ h. phrased.empty_call n.0 h)))
+
+right-formed : Sound right_side IsRight
+unfolding right_side
+right-formed s =
+    other_at (expression s) (empty_call s) s.notes IsRight (weaken (expression s) s.notes IsExpression IsRight (expression-formed s) (λ e h. phrased.value e h)) (empty_call-formed s)
+
 assignment-formed : Sound assignment IsWhat
 unfolding assignment
 assignment-formed s =
-    seq (variable s) (λ v. parse_word (codes "=") v.1 >>= λ t. expression t >>= λ e. Some (assign v.0 e.0, e.1)) s.notes IsVariable IsWhat (variable-formed s)
-    (λ v. then_word (codes "=") v.1 (λ t. expression t >>= λ e. Some (assign v.0 e.0, e.1)) (λ w. IsVariable v.0 → IsWhat w)
+    seq (variable s) (λ v. parse_word (codes "=") v.1 >>= λ t. right_side t >>= λ e. Some (assign v.0 e.0, e.1)) s.notes IsVariable IsWhat (variable-formed s)
+    (λ v. then_word (codes "=") v.1 (λ t. right_side t >>= λ e. Some (assign v.0 e.0, e.1)) (λ w. IsVariable v.0 → IsWhat w)
     (λ r. let t : State = record v.1 { rest = r } in
-    seq (expression t) (λ e. Some (assign v.0 e.0, e.1)) v.1.notes IsExpression (λ w. IsVariable v.0 → IsWhat w) (expression-formed t)
+    seq (right_side t) (λ e. Some (assign v.0 e.0, e.1)) v.1.notes IsRight (λ w. IsVariable v.0 → IsWhat w) (right-formed t)
     (λ e c. (c, λ f g. record { left = g; right = f }))))
 
 call-formed : Sound call_statement IsWhat

@@ -15,12 +15,12 @@ use Rattle.f77_forms.specs.Profile.{profile}
 use Rattle.f77_statements.specs.Statements.{form_at}
 use Rattle.f77_printer.specs.ExprText.{expr_text, items_text}
 use Rattle.f77_printer.specs.StatementText.{actuals_text}
-use Rattle.roundtrip_programs.specs.Statements.Formed.{IsExpression, IsVariable}
-use Rattle.roundtrip_programs.specs.Statements.Phrased.{IsWhat}
+use Rattle.roundtrip_programs.specs.Statements.Formed.{IsVariable}
+use Rattle.roundtrip_programs.specs.Statements.Phrased.{IsRight, IsWhat}
 use Rattle.roundtrip_programs.proofs.Statements.Characters.{digit_is_no}
 use Rattle.roundtrip_programs.proofs.Statements.Numbers.{decimal_first}
 use Rattle.roundtrip_programs.proofs.Statements.Balanced.{tight, listed, deep, pair, word, decimal_quiet, expr_balanced, items_balanced}
-use Rattle.roundtrip_programs.proofs.Statements.Compact.{compact, variable_balanced, listed_balanced, variables_balanced, actuals_balanced, message_balanced, message_of, name_balanced}
+use Rattle.roundtrip_programs.proofs.Statements.Compact.{compact, right_balanced, variable_balanced, listed_balanced, variables_balanced, actuals_balanced, message_balanced, message_of, name_balanced}
 use Rattle.roundtrip_programs.proofs.Statements.Forms.{form_from, by_keyword, marks_equal, no_if, closes_before}
 use Rattle.roundtrip_programs.proofs.Statements.Turns.{joined}
 
@@ -39,10 +39,10 @@ form_of_what (do_loop l) = forms.Do
 
 -- ---- assignments
 
-assigned : (v e : ExprTree) → IsVariable v → IsExpression e → form_at (expr_text v ++ (61 ∷ expr_text e)) ≡ Ok forms.Assignment
+assigned : (v e : ExprTree) → IsVariable v → IsRight e → form_at (expr_text v ++ (61 ∷ expr_text e)) ≡ Ok forms.Assignment
 assigned (name n) e h x =
     form_from (n ++ (61 ∷ expr_text e)) Equal forms.Assignment (no_if n (61 ∷ expr_text e) h refl refl)
-    (marks_equal n (expr_text e) (name_balanced n h tight) (expr_balanced x tight)) refl
+    (marks_equal n (expr_text e) (name_balanced n h tight) (right_balanced x tight)) refl
 assigned (element n (more_exprs i is)) e h x =
     let v : ExprTree = element n (more_exprs i is) in
     let t : List ℕ = expr_text i ++ items_text is in
@@ -50,7 +50,7 @@ assigned (element n (more_exprs i is)) e h x =
     let shape : expr_text v ++ u ≡ n ++ (40 ∷ (t ++ (41 ∷ u))) = append_assoc (n ++ codes "(" ++ t) (codes ")") u ∙ joined n (codes "(") t (41 ∷ u) in
     let closed = ap (option_and_then if_behind) (closes_before t u (pair deep (expr_text i) (items_text is) (expr_balanced h.first deep) (items_balanced h.others))) in
     form_from (expr_text v ++ u) Equal forms.Assignment (ap if_choice shape ∙ no_if n (40 ∷ (t ++ (41 ∷ u))) h.name closed refl)
-    (marks_equal (expr_text v) (expr_text e) (variable_balanced v h tight) (expr_balanced x tight)) refl
+    (marks_equal (expr_text v) (expr_text e) (variable_balanced v h tight) (right_balanced x tight)) refl
 assigned (element n no_exprs) e h x = absurd h
 assigned (int n) e h x = absurd h
 assigned (log b) e h x = absurd h

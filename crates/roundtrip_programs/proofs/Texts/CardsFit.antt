@@ -1,11 +1,10 @@
 -- What is written of a module fits into lines, as what was read did.
-use Rattle.std.proofs.Common.{◌≡◌, ℕ, ◌≤◌, List, [], ◌∷◌, length, refl, ap, ◌∙◌, arith, Bool, true, false, not, if◌then◌else◌}
-use Rattle.std.specs.Prelude.{nat_eq, Ok}
+use Rattle.std.proofs.Common.{◌≡◌, ℕ, ◌≤◌, List, length, refl, ap, ◌∙◌, arith, true, false}
+use Rattle.std.specs.Prelude.{Ok}
 use Rattle.std.specs.List.{list_all}
-use Rattle.std.proofs.lemmas.Bool.{and_parts, and_from}
 use Rattle.fixed_form.specs.Characters.{is_allowed}
 use Rattle.f77_ast.specs.Trees.{ExprTree}
-use Rattle.f77_statements.specs.Phrases.{PhraseTree, program, subroutine, specification, simple, logical_if, block_if, else_if, else_part, end_if, do_head, end_do, end_module}
+use Rattle.f77_statements.specs.Phrases.{PhraseTree, program, subroutine, function, specification, simple, logical_if, block_if, else_if, else_part, end_if, do_head, while_head, end_do, end_module}
 use Rattle.f77_statements.specs.Statements.{phrase_of}
 use Rattle.f77_printer.specs.Layout.{stripped}
 use Rattle.roundtrip_programs.specs.Cards.Good.{IsText, IsBody}
@@ -15,7 +14,7 @@ use Rattle.roundtrip_programs.proofs.Statements.Phrases.{statements_read_back}
 use Rattle.roundtrip_programs.proofs.Statements.Fits.{statements_fit}
 use Rattle.roundtrip_programs.specs.ModuleTexts.ModuleLaws.{MaybeLabel}
 use Rattle.roundtrip_programs.proofs.ModuleTexts.Kept.{Kind}
-use Rattle.roundtrip_programs.proofs.Cards.Fit.{strip_at as strip-by, stripped_allowed as stripped-allowed}
+use Rattle.roundtrip_programs.proofs.Cards.Fit.{stripped_allowed as stripped-allowed}
 
 -- without its blanks the text is as long as lines may hold
 pub record Fits (p : PhraseTree) : Type 0 where
@@ -31,6 +30,7 @@ read-fits body p b h =
 written-fits : (p : PhraseTree) → Fits p → Fits (as_written p)
 written-fits (program n) h = h
 written-fits (subroutine n ds) h = h
+written-fits (function form n ds) h = h
 written-fits (specification d) h = h
 written-fits (simple w) h = h
 written-fits (logical_if e w) h = h
@@ -39,6 +39,7 @@ written-fits (else_if e) h = h
 written-fits else_part h = h
 written-fits end_if h = h
 written-fits (do_head d) h = record { allowed = h.allowed; short = h.short }
+written-fits (while_head l e) h = record { allowed = h.allowed; short = h.short }
 written-fits end_do h = h
 written-fits end_module h = h
 

@@ -21,7 +21,7 @@ use Rattle.roundtrip_programs.proofs.Statements.Phrases.{statements_read_back}
 use Rattle.roundtrip_programs.specs.ModuleTexts.Cards.{Card, statements_of}
 use Rattle.roundtrip_programs.specs.ModuleTexts.ModuleLaws.{IsStatement, AreWritten, of_statement, of_card}
 use Rattle.roundtrip_programs.proofs.ModuleTexts.Alone.{some-first, first-same}
-use Rattle.roundtrip_programs.proofs.ModuleTexts.Kept.{each-map}
+use Rattle.roundtrip_programs.proofs.ModuleTexts.Each.{each-map}
 use Rattle.roundtrip_programs.proofs.ModuleTexts.Steady.{no-fault}
 use Rattle.roundtrip_programs.specs.ModuleTexts.DepthLaws.{FlatStatement, FlatCard}
 use Rattle.roundtrip_programs.proofs.ModuleTexts.Phrases.{not_deeper}
@@ -93,6 +93,6 @@ again-faultless p h = subst StaysFaultless (sym h.is) again
     again ss w d =
         let i = all-formed (h.begun ++ h.end ∷ []) h.sourced in
         let shallow = all-shallow (h.begun ++ h.end ∷ []) nothing_ordered (no-fault (marks_of (h.begun ++ h.end ∷ [])) h.faultless).0 in
-        let flat = cards_flat h.closing (h.begun ++ h.end ∷ []) i (all-flat (h.begun ++ h.end ∷ []) h.sourced shallow) in
+        let flat = cards_flat h.closing h.begun h.end h.ends i (all-flat (h.begun ++ h.end ∷ []) h.sourced shallow) h.faultless in
         let own = written-shallow ss (statements_of (build_module h.closing (h.begun ++ h.end ∷ [])).module_read) w flat d in
         none-found (marks_of ss) (order_again h.closing h.begun h.end ss h.ends i h.faultless w own) (jumps_again h.closing h.begun h.end ss h.ends i h.faultless w)

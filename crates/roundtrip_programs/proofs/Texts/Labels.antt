@@ -9,7 +9,7 @@ use Rattle.fixed_form.specs.Characters.{is_space, digit_number}
 use Rattle.fixed_form.specs.Cards.{field, is_label_mark, label_number, label_field}
 use Rattle.fixed_form.specs.Reading.{label_of}
 use Rattle.roundtrip_programs.specs.ModuleTexts.ModuleLaws.{MaybeLabel}
-use Rattle.fixed_form.proofs.LawLemmas.{most, most-small, number_from-le as number-le}
+use Rattle.fixed_form.proofs.LawLemmas.{most-small, number_from-le as number-le}
 
 digit-le : (v b : ℕ) → is_label_mark b ≡ true → (if is_space b then v else 10 * v + digit_number b) ≤ 10 * v + 9
 digit-le v b h = grind (arith, nat_tests)

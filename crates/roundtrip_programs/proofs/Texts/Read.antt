@@ -1,10 +1,10 @@
 -- Where the modules of a text come from.
-use Rattle.std.proofs.Common.{◌≡◌, ℕ, List, [], ◌∷◌, ◌++◌, refl, sym, ◌∙◌, subst, append_assoc, append-nil, Bool, true, false}
+use Rattle.std.proofs.Common.{◌≡◌, ℕ, List, [], ◌∷◌, ◌++◌, refl, sym, ap, ◌∙◌, subst, append_assoc, append-nil, Bool, true, false}
 use Rattle.std.specs.Prelude.{Option, Some, None, Result, Ok, Err, if◌then◌else◌}
 use Rattle.fixed_form.specs.declared.line.Line.{Line}
 use Rattle.f77_ast.specs.DeclTrees.{ParsedTree}
 use Rattle.f77_statements.specs.declared.refusal.Cause.{Cause}
-use Rattle.f77_statements.specs.Phrases.{PhraseTree, program, subroutine, specification, simple, logical_if, block_if, else_if, else_part, end_if, do_head, end_do, end_module}
+use Rattle.f77_statements.specs.Phrases.{PhraseTree, end_module}
 use Rattle.f77_statements.specs.Statements.{phrase_of}
 use Rattle.fx_lists.specs.declared.refusal.Refusal.{Refusal}
 use Rattle.f77_structure.specs.Checks.{fault_of}
@@ -12,16 +12,20 @@ use Rattle.f77_structure.specs.Depth.{is_deep}
 use Rattle.f77_structure.specs.Lists.{is_none_of}
 use Rattle.f77_parser.specs.Gives.{Refused, and_then}
 use Rattle.f77_parser.specs.Statements.{StatementTree, read_as, all_read, marks_of}
-use Rattle.f77_parser.specs.Building.{build_module}
-use Rattle.f77_parser.specs.Modules.{ends_module, closing_at, unless_faulty, modules_from, parse_of}
+use Rattle.f77_parser.specs.Building.{written_module, build_module}
+use Rattle.f77_parser.specs.Functions.{bounded_names}
+use Rattle.f77_parser.specs.Ends.{ends_module, decls_to_end}
+use Rattle.f77_parser.specs.References.{empty_call_fault, reference_fault}
+use Rattle.f77_parser.specs.Modules.{module_fault, statements_in, closing_at, unless_faulty, modules_from, parse_of}
 use Rattle.roundtrip_programs.specs.Cards.Good.{IsBody, AreBodies}
 use Rattle.roundtrip_programs.proofs.Cards.Bodies.{bodies_are_short}
 use Rattle.roundtrip_programs.specs.Statements.Formed.{Each}
 use Rattle.roundtrip_programs.specs.ModuleTexts.ModuleLaws.{MaybeLabel}
-use Rattle.roundtrip_programs.proofs.ModuleTexts.Kept.{Each-append}
+use Rattle.roundtrip_programs.proofs.ModuleTexts.Each.{Each-append}
 use Rattle.roundtrip_programs.specs.Texts.Texts.{IsReadAs}
 use Rattle.roundtrip_programs.proofs.Texts.Sources.{AreKept, IsSource, given}
 use Rattle.roundtrip_programs.proofs.Written.Read.{only-end as ends-module}
+use Rattle.roundtrip_programs.proofs.Assigned.{NoEnd, NoCalls, no-fault, read-well, first-uncalled}
 
 -- ---- statements
 
@@ -62,6 +66,9 @@ pub record IsParsed (p : ParsedTree) : Type 0 where
   pub kept : AreKept closing
   pub sourced : AreSourced (begun ++ end ∷ [])
   pub faultless : fault_of (marks_of (begun ++ end ∷ [])) ≡ None
+  pub inner : NoEnd begun
+  pub references : reference_fault (begun ++ end ∷ []) ≡ None
+  pub calls : NoCalls (bounded_names (decls_to_end (begun ++ end ∷ []))) (begun ++ end ∷ [])
 
 -- only the last module has comments at its end
 abbrev pub IsBefore : List ParsedTree → ParsedTree → Type 0
@@ -98,31 +105,46 @@ faultless-on None q k done ps h g = g refl h
 faultless-on (Some f) q k done ps h g = cc
 
 choice-on : (b : Bool) (x y : Result (List ParsedTree) Refused) (done ps : List ParsedTree) → (if b then x else y) ≡ Ok ps
-    → (b ≡ true → x ≡ Ok ps → GoesOn done ps) → (y ≡ Ok ps → GoesOn done ps) → GoesOn done ps
+    → (b ≡ true → x ≡ Ok ps → GoesOn done ps) → (b ≡ false → y ≡ Ok ps → GoesOn done ps) → GoesOn done ps
 choice-on true x y done ps h f g = f refl h
-choice-on false x y done ps h f g = g h
+choice-on false x y done ps h f g = g refl h
 
-all-go : (closing : List (List ℕ)) (ss : List StatementTree) (done ps : List ParsedTree) (begun : List StatementTree) → AreKept closing → AreSourced begun → AreSourced ss
+all-go : (closing : List (List ℕ)) (ss : List StatementTree) (done ps : List ParsedTree) (begun : List StatementTree) → AreKept closing → AreSourced begun → AreSourced ss → NoEnd begun → empty_call_fault (begun ++ ss) ≡ None
     → modules_from closing done begun ss ≡ Ok ps → GoesOn done ps
-unfolding build_module
-all-go closing [] done ps begun k b i h = let same : done ≡ ps = cc in record { more = []; is = sym same ∙ sym (append-nil done); parsed = tt }
-all-go closing (s ∷ ss) done ps begun k b i h =
+unfolding build_module written_module
+all-go closing [] done ps begun k b i n c h = let same : done ≡ ps = cc in record { more = []; is = sym same ∙ sym (append-nil done); parsed = tt }
+all-go closing (s ∷ ss) done ps begun k b i n c h =
     let whole = begun ++ s ∷ [] in
     let own = closing_at (is_none_of ss) closing in
     let more : AreSourced whole = Each-append IsSourced begun (s ∷ []) b (record { first = i.first; others = tt }) in
     choice-on (ends_module s.phrase)
-    (and_then (unless_faulty (fault_of (marks_of whole)) (build_module own whole)) (λ p. modules_from closing (done ++ p ∷ []) [] ss)) (modules_from closing done whole ss) done ps h
-    (λ e g. faultless-on (fault_of (marks_of whole)) (build_module own whole) (λ p. modules_from closing (done ++ p ∷ []) [] ss) done ps g
-    (λ f x. module-more closing done ps (build_module own whole) ss
-    (record { closing = own; begun = begun; end = s; is = refl; ends = ends-module s.phrase e; kept = at-kept (is_none_of ss) closing k; sourced = more; faultless = f })
-    refl x (all-go closing ss (done ++ build_module own whole ∷ []) ps [] k tt i.others x)))
-    (λ g. all-go closing ss done ps whole k more i.others g)
+    (and_then (unless_faulty (module_fault whole) (build_module own whole)) (λ p. modules_from closing (done ++ p ∷ []) [] ss)) (modules_from closing done whole ss) done ps h
+    (λ e g. faultless-on (module_fault whole) (build_module own whole) (λ p. modules_from closing (done ++ p ∷ []) [] ss) done ps g
+    (λ f x. (let none = no-fault whole f in
+    let u = first-uncalled begun s ss n e c in
+    module-more closing done ps (build_module own whole) ss
+    (record {
+      closing = own;
+      begun = begun;
+      end = s;
+      is = refl;
+      ends = ends-module s.phrase e;
+      kept = at-kept (is_none_of ss) closing k;
+      sourced = more;
+      faultless = none.structure;
+      inner = n;
+      references = none.references;
+      calls = u.own;
+    })
+    refl x (all-go closing ss (done ++ build_module own whole ∷ []) ps [] k tt i.others tt u.behind x))))
+    (λ e g. all-go closing ss done ps whole k more i.others (Each-append (λ (t : StatementTree). ends_module t.phrase ≡ false) begun (s ∷ []) n (record { first = e; others = tt }))
+    (ap empty_call_fault (append_assoc begun (s ∷ []) ss) ∙ c) g)
 
 -- ---- texts
 
-then-on : (r : Result (List StatementTree) Refused) (closing : List (List ℕ)) (ps : List ParsedTree) → AreKept closing → ((ss : List StatementTree) → r ≡ Ok ss → AreSourced ss)
+then-on : (r : Result (List StatementTree) Refused) (closing : List (List ℕ)) (ps : List ParsedTree) → AreKept closing → ((ss : List StatementTree) → r ≡ Ok ss → AreSourced ss × (empty_call_fault ss ≡ None))
     → and_then r (λ ss. modules_from closing [] [] ss) ≡ Ok ps → AreParsed ps
-then-on (Ok ss) closing ps k i h = let g = all-go closing ss [] ps [] k tt (i ss refl) h in subst AreParsed (sym g.is) g.parsed
+then-on (Ok ss) closing ps k i h = let w = i ss refl in let g = all-go closing ss [] ps [] k tt w.0 tt w.1 h in subst AreParsed (sym g.is) g.parsed
 then-on (Err e) closing ps k i h = cc
 
 -- the modules that a text is read as
@@ -130,5 +152,5 @@ pub all-parsed : (text : List ℕ) (ps : List ParsedTree) → IsReadAs text ps �
 unfolding parse_of
 all-parsed text ps r =
     let g = given text r.lines r.lined in
-    then-on (all_read [] r.lines.lines) r.lines.closing ps g.closing
-    (λ ss e. all-sourced r.lines.lines [] ss g.statements (bodies_are_short text r.lines r.lined) tt e) r.parsed
+    then-on (statements_in r.lines.lines) r.lines.closing ps g.closing
+    (λ ss e. (let w = read-well r.lines.lines ss e in (all-sourced r.lines.lines [] ss g.statements (bodies_are_short text r.lines r.lined) tt w.all, w.calls))) r.parsed

@@ -1,8 +1,6 @@
 -- What is read of the written text is written as the same text, without what was added.
-use Rattle.std.proofs.Common.{◌≡◌, ℕ, ◌+◌, List, [], ◌∷◌, ◌++◌, length, refl, sym, ap, ◌∙◌, arith, append-nil, Bool, true, false}
-use Rattle.std.specs.Prelude.{Option, Some, None, nat_eq, if◌then◌else◌}
-use Rattle.std.proofs.lemmas.Bool.{and_from}
-use Rattle.std.proofs.lemmas.Bool.Decides.{nat_tests}
+use Rattle.std.proofs.Common.{◌≡◌, ℕ, ◌+◌, List, [], ◌∷◌, ◌++◌, length, refl, sym, ap, ◌∙◌, append-nil, Bool, true, false}
+use Rattle.std.specs.Prelude.{Option, Some, None, if◌then◌else◌}
 use Rattle.fixed_form.specs.Cards.{is_dropped}
 use Rattle.f77_ast.specs.declared.places.Part.{Part}
 use Rattle.f77_ast.specs.declared.places.Part.TheVariants as parts
@@ -29,7 +27,6 @@ use Rattle.roundtrip_programs.proofs.Texts.Standing.{inner_spots, own_spots, spo
 use Rattle.f77_printer.proofs.AddedLemmas.{is_part_self as same-part}
 use Rattle.fx_lists.proofs.Lists.{append-by, dropped-cons, either-nothing, kept-cons}
 use Rattle.fx_lists.proofs.Booleans.{chosen as chosen-true}
-use Rattle.fx_lists.proofs.Numbers.{same_number as same-number}
 
 -- ---- comments that are kept
 

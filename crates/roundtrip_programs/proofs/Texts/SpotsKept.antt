@@ -6,13 +6,13 @@ use Rattle.f77_ast.specs.declared.places.Part.TheVariants as parts
 use Rattle.f77_ast.specs.declared.places.Spot.{Spot}
 use Rattle.f77_ast.specs.Trees.{ExprTree, WhatTree, continue}
 use Rattle.f77_printer.specs.PageText.{is_part}
-use Rattle.f77_statements.specs.Phrases.{PhraseTree, program, subroutine, specification, simple, logical_if, block_if, else_if, else_part, end_if, do_head, end_do, end_module}
+use Rattle.f77_statements.specs.Phrases.{PhraseTree, program, subroutine, function, specification, simple, logical_if, block_if, else_if, else_part, end_if, do_head, while_head, end_do, end_module}
 use Rattle.f77_parser.specs.Statements.{StatementTree}
-use Rattle.f77_parser.specs.SoFar.{OpeningTree, opening_loop, branches, AroundTree, SoFar, spot, add_spot, add_executable, add_logical_if, open_block, leave_block, is_loop_to, leave_loops, end_loops_at, close_innermost, close_block}
-use Rattle.f77_parser.specs.Building.{divide_innermost, add_continue, add_phrase, add_statement, add_all, no_statements, build_module}
+use Rattle.f77_parser.specs.SoFar.{OpeningTree, opening_loop, opening_while, branches, AroundTree, SoFar, spot, add_spot, add_executable, add_logical_if, open_block, add_while, leave_block, is_loop_to, leave_loops, end_loops_at, close_innermost, close_block}
+use Rattle.f77_parser.specs.Building.{divide_innermost, add_continue, add_phrase, add_statement, add_all, no_statements, written_module, build_module}
 use Rattle.roundtrip_programs.specs.Statements.Formed.{Each}
 use Rattle.roundtrip_programs.specs.ModuleTexts.Page.{comments_at, spots_behind, inner_comments, inner_behind}
-use Rattle.roundtrip_programs.proofs.ModuleTexts.Kept.{Each-append}
+use Rattle.roundtrip_programs.proofs.ModuleTexts.Each.{Each-append}
 use Rattle.roundtrip_programs.proofs.Texts.Sources.{AreKept}
 
 abbrev pub SpotKept : Spot → Type 0
@@ -64,9 +64,10 @@ continued-kept : (f l : ℕ) (cs : List (List ℕ)) (p : SoFar) → AreKept cs �
 continued-kept f l cs p k h = at-kept (Some l) (add_executable f (Some l) cs continue p) (stated-kept f (Some l) cs continue p k h)
 
 phrase-kept : (f : ℕ) (label : Option ℕ) (cs : List (List ℕ)) (phrase : PhraseTree) (p : SoFar) → AreKept cs → SpotsKept p.spots → SpotsKept (add_phrase f label cs phrase p).spots
-unfolding add_spot
+unfolding add_spot add_while
 phrase-kept f label cs (program n) p k h = Each-append SpotKept p.spots (spot _ f cs ∷ []) h (record { first = k; others = tt })
 phrase-kept f label cs (subroutine n ds) p k h = Each-append SpotKept p.spots (spot _ f cs ∷ []) h (record { first = k; others = tt })
+phrase-kept f label cs (function form n ds) p k h = Each-append SpotKept p.spots (spot _ f cs ∷ []) h (record { first = k; others = tt })
 phrase-kept f label cs (specification d) p k h = Each-append SpotKept p.spots (spot _ f cs ∷ []) h (record { first = k; others = tt })
 phrase-kept f label cs (simple w) p k h = at-kept label (add_executable f label cs w p) (stated-kept f label cs w p k h)
 phrase-kept f label cs (logical_if e w) p k h = at-kept label (add_logical_if f label cs e w p) (conditioned-kept f label cs e w p k h)
@@ -76,6 +77,7 @@ phrase-kept f label cs else_part p k h = divided-kept p.around f cs None p k h
 phrase-kept f None cs end_if p k h = closed-kept p.around f cs p k h
 phrase-kept f (Some l) cs end_if p k h = continued-kept f l [] (close_block f cs p) tt (closed-kept p.around f cs p k h)
 phrase-kept f label cs (do_head d) p k h = entered-kept f label cs (opening_loop d) p k h
+phrase-kept f label cs (while_head l e) p k h = entered-kept f label cs (opening_while l e) (add_while p) k h
 phrase-kept f None cs end_do p k h = closed-kept p.around f cs p k h
 phrase-kept f (Some l) cs end_do p k h =
     let q = add_continue f l cs p in closed-kept q.around f [] q tt (continued-kept f l cs p k h)
@@ -91,7 +93,7 @@ all-kept [] p k h = h
 all-kept (s ∷ ss) p k h = all-kept ss (add_statement s p) k.others (phrase-kept s.first s.label s.comments s.phrase p k.first h)
 
 pub built-kept : (closing : List (List ℕ)) (ss : List StatementTree) → Each CommentsKept ss → SpotsKept (build_module closing ss).places.spots
-unfolding build_module
+unfolding build_module written_module
 built-kept closing ss k = all-kept ss no_statements k tt
 
 -- ---- taken one after another

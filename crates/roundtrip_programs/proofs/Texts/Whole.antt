@@ -9,7 +9,9 @@ use Rattle.f77_statements.specs.Phrases.{end_module}
 use Rattle.f77_structure.specs.Lists.{is_none_of}
 use Rattle.f77_parser.specs.Gives.{and_then}
 use Rattle.f77_parser.specs.Statements.{StatementTree}
-use Rattle.f77_parser.specs.Building.{build_module}
+use Rattle.f77_parser.specs.References.{empty_call_fault}
+use Rattle.f77_parser.specs.Elaborated.{meant_in}
+use Rattle.f77_parser.specs.Building.{written_module, build_module}
 use Rattle.f77_parser.specs.Modules.{closing_at, modules_from, parse_of}
 use Rattle.f77_printer.specs.declared.added.Added.{Added}
 use Rattle.f77_printer.specs.PageText.{is_part}
@@ -22,13 +24,15 @@ use Rattle.roundtrip_programs.proofs.Cards.Whole.{lines_read_back}
 use Rattle.roundtrip_programs.specs.Statements.Formed.{Each}
 use Rattle.roundtrip_programs.proofs.Statements.Phrases.{statements_read_back}
 use Rattle.roundtrip_programs.specs.ModuleTexts.Cards.{Card, card, title_cards, decl_cards, cards_in, statements_of}
+use Rattle.roundtrip_programs.specs.ModuleTexts.Folded.{folded}
 use Rattle.roundtrip_programs.specs.ModuleTexts.Numbered.{IsWell}
 use Rattle.roundtrip_programs.specs.ModuleTexts.Page.{behind, page_text}
 use Rattle.roundtrip_programs.specs.ModuleTexts.ModuleLaws.{MaybeLabel, IsRead, IsCard, AreWritten}
 use Rattle.roundtrip_programs.proofs.ModuleTexts.Again.{built_again}
 use Rattle.roundtrip_programs.proofs.ModuleTexts.Alone.{first-same, read_next}
-use Rattle.roundtrip_programs.proofs.ModuleTexts.Kept.{Each-append, each-map, Stated, Held, all_held, cards_read}
-use Rattle.roundtrip_programs.proofs.ModuleTexts.Well.{built_well}
+use Rattle.roundtrip_programs.proofs.ModuleTexts.Each.{Each-append, each-map}
+use Rattle.roundtrip_programs.proofs.ModuleTexts.Kept.{Stated, Held, all_held, cards_read}
+use Rattle.roundtrip_programs.proofs.ModuleTexts.Built.{built_well}
 use Rattle.roundtrip_programs.specs.Texts.Texts.{IsReadAs, IsPassedOver, text_of, modules_text, plain_text, module_of}
 use Rattle.roundtrip_programs.specs.Texts.Laws.{ReadBack, AllPassedOver, TextsReadBack, ReadAlone, ModulesReadBack}
 use Rattle.roundtrip_programs.proofs.Texts.Sources.{IsKept, AreKept}
@@ -39,6 +43,8 @@ use Rattle.roundtrip_programs.proofs.Texts.Rows.{Row, line_card, added_lines, li
 use Rattle.roundtrip_programs.proofs.Texts.RowsBack.{IsRow, read_rows, lines_behind, rows-append, rows-read, rows-written, are-comments, are-cards, EndWell, joined-ended, rows-ended}
 use Rattle.roundtrip_programs.proofs.Texts.Standing.{built-spots}
 use Rattle.roundtrip_programs.proofs.Texts.SameText.{kept-same, added-dropped, same-page, same-text}
+use Rattle.roundtrip_programs.proofs.Assigned.{faultless, none-uncalled, well-read}
+use Rattle.roundtrip_programs.proofs.Texts.References.{again-fine, fine-then}
 use Rattle.roundtrip_programs.proofs.Texts.Faultless.{IsAsWritten, all-formed, again-faultless}
 
 -- ---- a module
@@ -65,11 +71,11 @@ is-read : (s : StatementTree) → IsSourced s → IsRead s
 is-read s h = record { label = h.label; phrase = statements_read_back.formed h.body s.phrase h.read }
 
 sound : (p : ParsedTree) → IsParsed p → IsSound p
-unfolding build_module
+unfolding build_module written_module
 sound p h =
     let whole = h.begun ++ h.end ∷ [] in
-    let read = cards_read h.closing whole (each-map IsSourced IsRead whole is-read h.sourced) in
-    let fits = all_held MaybeLabel IsFitting Fits fitting h.closing whole (each-map IsSourced (Stated MaybeLabel IsFitting) whole stated h.sourced) in
+    let read = cards_read h.closing h.begun h.end h.ends (each-map IsSourced IsRead whole is-read h.sourced) h.faultless in
+    let fits = all_held MaybeLabel IsFitting Fits fitting h.closing h.begun h.end h.ends (each-map IsSourced (Stated MaybeLabel IsFitting) whole stated h.sourced) h.faultless in
     subst IsSound (sym h.is) (record {
       well = built_well h.closing h.begun h.end h.ends (all-formed whole h.sourced) h.faultless;
       cards = good (statements_of (build_module h.closing whole).module_read) read fits;
@@ -129,7 +135,7 @@ module-ended : (added : ParsedTree → List Added) (p : ParsedTree) → EndWell 
 unfolding statements_of
 module-ended added p =
     let m = p.module_read in
-    rows-ended (added_lines (first_part m) (added p)) p.places.spots (title_cards m ++ decl_cards 0 m.decls ++ cards_in m.body) (card parts.End None end_module) refl
+    rows-ended (added_lines (first_part m) (added p)) p.places.spots (title_cards m ++ decl_cards 0 m.decls ++ cards_in (meant_in m).is_while (folded m).body) (card parts.End None end_module) refl
 
 -- ---- all modules
 
@@ -184,9 +190,18 @@ all-again added closing (p ∷ ps) n done h =
     let more = read_rows k (all_rows added ps) in
     let w = again-written added n p in
     ap (modules_from closing done []) (rows-append (module_rows added p) (all_rows added ps) n)
-    ∙ read_next p.module_read closing done own more w (again-faultless p h.first own w (as-written (module_rows added p) n))
+    ∙ read_next p.module_read closing done own more w (faultless own (again-faultless p h.first own w (as-written (module_rows added p) n)) (again-fine p own h.first w).references)
     ∙ all-again added closing ps k (done ++ again_of added closing n p ps ∷ []) h.others
     ∙ ap (λ (x : List ParsedTree). Ok x) (append_assoc done (again_of added closing n p ps ∷ []) (all_again added closing k ps))
+
+-- no F() that is none of a function
+pub all-uncalled : (added : ParsedTree → List Added) (ps : List ParsedTree) (n : ℕ) → AreParsed ps → empty_call_fault (read_rows n (all_rows added ps)) ≡ None
+all-uncalled added [] n h = none-uncalled
+all-uncalled added (p ∷ ps) n h =
+    let own = read_rows n (module_rows added p) in
+    let more = read_rows (lines_behind n (module_rows added p)) (all_rows added ps) in
+    ap empty_call_fault (rows-append (module_rows added p) (all_rows added ps) n)
+    ∙ fine-then p own more (again-fine p own h.first (again-written added n p)) (all-uncalled added ps (lines_behind n (module_rows added p)) h.others)
 
 pub all-same : (added : ParsedTree → List Added) (closing : List (List ℕ)) (ps : List ParsedTree) (n : ℕ) → Each IsSound ps → map module_of (all_again added closing n ps) ≡ map module_of ps
 all-same added closing [] n h = refl
@@ -207,10 +222,10 @@ pub module-filled : (added : ParsedTree → List Added) (p : ParsedTree) (n : �
 unfolding statements_of
 module-filled added p n more =
     let m = p.module_read in
-    rows-filled (added_lines (first_part m) (added p)) p.places.spots (title_cards m ++ decl_cards 0 m.decls ++ cards_in m.body) (card parts.End None end_module) n more
+    rows-filled (added_lines (first_part m) (added p)) p.places.spots (title_cards m ++ decl_cards 0 m.decls ++ cards_in (meant_in m).is_while (folded m).body) (card parts.End None end_module) n more
 
 pub again-closing : (closing : List (List ℕ)) (ss : List StatementTree) → (build_module closing ss).places.closing ≡ closing
-unfolding build_module
+unfolding build_module written_module
 again-closing closing ss = refl
 
 one-text : (added : ParsedTree → List Added) (n : ℕ) (p : ParsedTree) (closing : List (List ℕ)) → Each IsPassedOver (added p) → IsSound p → closing ≡ p.places.closing
@@ -251,7 +266,7 @@ parsed-back ps added h a =
             ap reading (all-text added ps h s)
             ∙ lines_read_back (map line_card rows) closing (are-cards rows good_rows) (are-comments closing (plain closing (closing-kept ps s))) (all-ended added ps);
         parsed =
-            ap (λ r. and_then r (λ ss. modules_from (kept closing) [] [] ss)) (rows-read rows 1 [] good_rows)
+            ap (λ r. and_then r (λ ss. modules_from (kept closing) [] [] ss)) (well-read (lines_from 1 (map line_card rows)) (read_rows 1 rows) (rows-read rows 1 [] good_rows) (all-uncalled added ps 1 h))
             ∙ all-again added (kept closing) ps 1 [] h;
       };
       same = all-same added (kept closing) ps 1 s;

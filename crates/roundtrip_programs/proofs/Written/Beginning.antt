@@ -1,5 +1,5 @@
 -- What a module begins with stays, whatever statements follow.
-use Rattle.std.proofs.Common.{◌≡◌, ℕ, ◌+◌, ◌≤◌, Bool, true, false, List, [], ◌∷◌, ◌++◌, refl, sym, ap, ◌∙◌, arith, if◌then◌else◌}
+use Rattle.std.proofs.Common.{◌≡◌, ℕ, ◌+◌, ◌≤◌, Bool, true, false, List, [], ◌∷◌, ◌++◌, refl, sym, ap, ◌∙◌, arith, append-nil, if◌then◌else◌}
 use Rattle.std.specs.Prelude.{Option, Some, None, not, ◌||◌, nat_lt}
 use Rattle.std.proofs.lemmas.Bool.Decides.{nat_tests}
 use Rattle.f77_ast.specs.declared.places.Part.{Part}
@@ -7,7 +7,7 @@ use Rattle.f77_ast.specs.declared.places.Part.TheVariants as parts
 use Rattle.f77_ast.specs.declared.places.Spot.{Spot}
 use Rattle.f77_ast.specs.Trees.{ExprTree, StmtTree, stmt, WhatTree, continue}
 use Rattle.f77_ast.specs.DeclTrees.{DeclTree}
-use Rattle.f77_statements.specs.Phrases.{PhraseTree, program, subroutine, specification, simple, logical_if, block_if, else_if, else_part, end_if, do_head, end_do, end_module}
+use Rattle.f77_statements.specs.Phrases.{PhraseTree, program, subroutine, function, specification, simple, logical_if, block_if, else_if, else_part, end_if, do_head, while_head, end_do, end_module}
 use Rattle.f77_structure.specs.declared.mark.Mark.{Mark}
 use Rattle.f77_structure.specs.declared.order.Order.{Order}
 use Rattle.f77_structure.specs.Marks.{statements_in, label_in}
@@ -15,7 +15,8 @@ use Rattle.f77_structure.specs.Order.{is_out_of_order, keep_label, counted, chec
 use Rattle.f77_parser.specs.declared.progress.Heading.{Heading}
 use Rattle.f77_parser.specs.Roles.{role_of}
 use Rattle.f77_parser.specs.Statements.{StatementTree, mark_of, marks_of}
-use Rattle.f77_parser.specs.SoFar.{OpeningTree, opening_loop, branches, AroundTree, SoFar, spot, add_spot, add_executable, add_logical_if, open_block, what_of, leave_block, is_loop_to, leave_loops, end_loops_at, close_innermost, close_block}
+use Rattle.f77_parser.specs.SoFar.{OpeningTree, opening_loop, opening_while, branches, AroundTree, SoFar, spot, add_spot, add_executable, add_logical_if, open_block, add_while, what_of, leave_block, is_loop_to, leave_loops, end_loops_at, close_innermost, close_block}
+use Rattle.f77_parser.specs.Ends.{decls_by}
 use Rattle.f77_parser.specs.Building.{add_specification, divide_innermost, add_continue, add_phrase, add_statement, add_all}
 use Rattle.fx_lists.proofs.Refused.{none_refused}
 
@@ -129,6 +130,11 @@ unfolding open_block add_spot
 open-keeps f label cs o p =
     record { heading = refl; decls = refl; opens = λ n h. opens-more n p.around p.list (stmt (p.count + 1) label continue) h; leads = λ x h. leads-more x p.spots (spot _ f cs) h }
 
+while-keeps : (f : ℕ) (label : Option ℕ) (cs : List (List ℕ)) (l : Option ℕ) (e : ExprTree) (p : SoFar) → Keeps p (open_block f label cs (opening_while l e) (add_while p))
+unfolding open_block add_spot add_while
+while-keeps f label cs l e p =
+    record { heading = refl; decls = refl; opens = λ n h. opens-more n p.around p.list (stmt (p.count + 1) label continue) h; leads = λ x h. leads-more x p.spots (spot _ f cs) h }
+
 continue-keeps : (f l : ℕ) (cs : List (List ℕ)) (p : SoFar) → Keeps p (add_continue f l cs p)
 continue-keeps f l cs p =
     let q = add_executable f (Some l) cs continue p in chained p q (add_continue f l cs p) (executable-keeps f (Some l) cs continue p) (ends-keep (Some l) q)
@@ -140,6 +146,7 @@ close-keeps f cs p = closed-keeps p.around f cs p refl
 abbrev IsInBody : PhraseTree → Type 0
 IsInBody (program n) = ⊥
 IsInBody (subroutine n ds) = ⊥
+IsInBody (function form n ds) = ⊥
 IsInBody (specification d) = ⊥
 IsInBody (simple w) = Unit {0}
 IsInBody (logical_if e w) = Unit {0}
@@ -148,12 +155,14 @@ IsInBody (else_if e) = Unit {0}
 IsInBody else_part = Unit {0}
 IsInBody end_if = Unit {0}
 IsInBody (do_head d) = Unit {0}
+IsInBody (while_head l e) = Unit {0}
 IsInBody end_do = Unit {0}
 IsInBody end_module = Unit {0}
 
 phrase-keeps : (f : ℕ) (label : Option ℕ) (cs : List (List ℕ)) (phrase : PhraseTree) (p : SoFar) → IsInBody phrase → Keeps p (add_phrase f label cs phrase p)
 phrase-keeps f label cs (program n) p i = absurd i
 phrase-keeps f label cs (subroutine n ds) p i = absurd i
+phrase-keeps f label cs (function form n ds) p i = absurd i
 phrase-keeps f label cs (specification d) p i = absurd i
 phrase-keeps f label cs (simple w) p i =
     let q = add_executable f label cs w p in chained p q (end_loops_at label q) (executable-keeps f label cs w p) (ends-keep label q)
@@ -165,10 +174,29 @@ phrase-keeps f label cs else_part p i = divided-keeps p.around f cs None p refl
 phrase-keeps f None cs end_if p i = close-keeps f cs p
 phrase-keeps f (Some l) cs end_if p i = let q = close_block f cs p in chained p q (add_continue f l [] q) (close-keeps f cs p) (continue-keeps f l [] q)
 phrase-keeps f label cs (do_head d) p i = open-keeps f label cs (opening_loop d) p
+phrase-keeps f label cs (while_head l e) p i = while-keeps f label cs l e p
 phrase-keeps f None cs end_do p i = close-keeps f cs p
 phrase-keeps f (Some l) cs end_do p i = let q = add_continue f l cs p in chained p q (close_block f [] q) (continue-keeps f l cs p) (close-keeps f [] q)
 phrase-keeps f None cs end_module p i = spot-keeps parts.End f cs p
 phrase-keeps f (Some l) cs end_module p i = let q = add_continue f l cs p in chained p q (add_spot parts.End f [] q) (continue-keeps f l cs p) (spot-keeps parts.End f [] q)
+
+-- the specification statements are those that stood
+pub phrase-decls : (f : ℕ) (label : Option ℕ) (cs : List (List ℕ)) (phrase : PhraseTree) (p : SoFar) → (add_phrase f label cs phrase p).decls ≡ p.decls ++ decls_by phrase
+unfolding add_spot
+phrase-decls f label cs (program n) p = sym (append-nil p.decls)
+phrase-decls f label cs (subroutine n ds) p = sym (append-nil p.decls)
+phrase-decls f label cs (function form n ds) p = sym (append-nil p.decls)
+phrase-decls f label cs (specification d) p = refl
+phrase-decls f label cs (simple w) p = (phrase-keeps f label cs (simple w) p tt).decls ∙ sym (append-nil p.decls)
+phrase-decls f label cs (logical_if e w) p = (phrase-keeps f label cs (logical_if e w) p tt).decls ∙ sym (append-nil p.decls)
+phrase-decls f label cs (block_if e) p = (phrase-keeps f label cs (block_if e) p tt).decls ∙ sym (append-nil p.decls)
+phrase-decls f label cs (else_if e) p = (phrase-keeps f label cs (else_if e) p tt).decls ∙ sym (append-nil p.decls)
+phrase-decls f label cs else_part p = (phrase-keeps f label cs else_part p tt).decls ∙ sym (append-nil p.decls)
+phrase-decls f label cs end_if p = (phrase-keeps f label cs end_if p tt).decls ∙ sym (append-nil p.decls)
+phrase-decls f label cs (do_head d) p = (phrase-keeps f label cs (do_head d) p tt).decls ∙ sym (append-nil p.decls)
+phrase-decls f label cs (while_head l e) p = (phrase-keeps f label cs (while_head l e) p tt).decls ∙ sym (append-nil p.decls)
+phrase-decls f label cs end_do p = (phrase-keeps f label cs end_do p tt).decls ∙ sym (append-nil p.decls)
+phrase-decls f label cs end_module p = (phrase-keeps f label cs end_module p tt).decls ∙ sym (append-nil p.decls)
 
 -- ---- what a module begins with
 
@@ -213,6 +241,7 @@ phrase-begins : (b : Start) (f : ℕ) (label : Option ℕ) (cs : List (List ℕ)
     → Begins b p k → Begins b (add_phrase f label cs phrase p) next
 phrase-begins b f label cs (program n) p main k next o l h = cc
 phrase-begins b f label cs (subroutine n ds) p main k next o l h = cc
+phrase-begins b f label cs (function form n ds) p main k next o l h = cc
 phrase-begins b f label cs (specification d) p main k next o l h = specification-begins b f cs d p k next o h
 phrase-begins b f label cs (simple w) p main k next o l h = still-begins b p _ k next (phrase-keeps f label cs (simple w) p tt) l h
 phrase-begins b f label cs (logical_if e w) p main k next o l h = still-begins b p _ k next (phrase-keeps f label cs (logical_if e w) p tt) l h
@@ -221,6 +250,7 @@ phrase-begins b f label cs (else_if e) p main k next o l h = still-begins b p _ 
 phrase-begins b f label cs else_part p main k next o l h = still-begins b p _ k next (phrase-keeps f label cs else_part p tt) l h
 phrase-begins b f label cs end_if p main k next o l h = still-begins b p _ k next (phrase-keeps f label cs end_if p tt) l h
 phrase-begins b f label cs (do_head d) p main k next o l h = still-begins b p _ k next (phrase-keeps f label cs (do_head d) p tt) l h
+phrase-begins b f label cs (while_head t e) p main k next o l h = still-begins b p _ k next (phrase-keeps f label cs (while_head t e) p tt) l h
 phrase-begins b f label cs end_do p main k next o l h = still-begins b p _ k next (phrase-keeps f label cs end_do p tt) l h
 phrase-begins b f label cs end_module p main k next o l h = still-begins b p _ k next (phrase-keeps f label cs end_module p tt) l h
 
@@ -228,6 +258,7 @@ phrase-leads : (x : Spot) (f : ℕ) (label : Option ℕ) (cs : List (List ℕ)) 
 unfolding add_spot
 phrase-leads x f label cs (program n) p h = leads-more x p.spots (spot parts.Title f cs) h
 phrase-leads x f label cs (subroutine n ds) p h = leads-more x p.spots (spot parts.Title f cs) h
+phrase-leads x f label cs (function form n ds) p h = leads-more x p.spots (spot parts.Title f cs) h
 phrase-leads x f label cs (specification d) p h = leads-more x p.spots (spot _ f cs) h
 phrase-leads x f label cs (simple w) p h = (phrase-keeps f label cs (simple w) p tt).leads x h
 phrase-leads x f label cs (logical_if e w) p h = (phrase-keeps f label cs (logical_if e w) p tt).leads x h
@@ -236,6 +267,7 @@ phrase-leads x f label cs (else_if e) p h = (phrase-keeps f label cs (else_if e)
 phrase-leads x f label cs else_part p h = (phrase-keeps f label cs else_part p tt).leads x h
 phrase-leads x f label cs end_if p h = (phrase-keeps f label cs end_if p tt).leads x h
 phrase-leads x f label cs (do_head d) p h = (phrase-keeps f label cs (do_head d) p tt).leads x h
+phrase-leads x f label cs (while_head l e) p h = (phrase-keeps f label cs (while_head l e) p tt).leads x h
 phrase-leads x f label cs end_do p h = (phrase-keeps f label cs end_do p tt).leads x h
 phrase-leads x f label cs end_module p h = (phrase-keeps f label cs end_module p tt).leads x h
 

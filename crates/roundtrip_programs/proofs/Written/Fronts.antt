@@ -15,12 +15,15 @@ use Rattle.f77_structure.specs.Steps.{by_role, parse_statement, all_stepped, not
 use Rattle.f77_parser.specs.Roles.{role_of}
 use Rattle.f77_parser.specs.Statements.{StatementTree, mark_of, marks_of}
 use Rattle.f77_parser.specs.SoFar.{SoFar, spot, add_spot, add_executable}
-use Rattle.f77_parser.specs.Building.{add_phrase, add_statement, add_all, no_statements, whole, build_module}
+use Rattle.f77_parser.specs.Elaborated.{meant_in}
+use Rattle.f77_parser.specs.Building.{add_phrase, add_statement, add_all, no_statements, whole, written_module, build_module}
 use Rattle.roundtrip_programs.specs.Statements.Formed.{Each}
-use Rattle.roundtrip_programs.specs.ModuleTexts.Cards.{Card, card, cards_by, cards_in, title_of, title_cards, decl_cards, statements_of}
-use Rattle.roundtrip_programs.specs.ModuleTexts.Numbered.{NumberedBelow, AreNumbered, IsWell}
+use Rattle.roundtrip_programs.specs.ModuleTexts.Cards.{Card, card, cards_by, cards_in, title_of, title_cards, decl_cards, written_cards, statements_of}
+use Rattle.roundtrip_programs.specs.ModuleTexts.Numbered.{NumberedBelow, AreNumbered, IsAsWritten, IsWell}
+use Rattle.roundtrip_programs.proofs.ModuleTexts.FoldedLaws.{elaborated_well, cards_back}
 use Rattle.roundtrip_programs.proofs.ModuleTexts.Steady.{step-calm, all-found, no-fault}
-use Rattle.roundtrip_programs.proofs.ModuleTexts.Well.{all-closed, nothing-goes, built_well}
+use Rattle.roundtrip_programs.proofs.ModuleTexts.Well.{all-closed, nothing-goes}
+use Rattle.roundtrip_programs.proofs.ModuleTexts.Built.{written_well}
 use Rattle.roundtrip_programs.proofs.Written.Beginning.{Start, with_title, with_decl, with_statement, part_at, outermost, Opens, Leads, Begins, is_titled, taken, found-before, all-begun}
 use Rattle.roundtrip_programs.proofs.Written.Starting.{starts}
 use Rattle.roundtrip_programs.proofs.Written.Read.{IsInner, IsBuilt}
@@ -50,25 +53,25 @@ not-chosen : (b : Bool) (c : Card) → b ≡ false → ◌≡◌ {A = List Card}
 not-chosen true c e = cc
 not-chosen false c e = refl
 
-first-by : (n id : ℕ) (label : Option ℕ) (w : WhatTree) → NumberedBelow n w → nat_eq id 1 ≡ true → FirstCard (parts.Stmt 1) (cards_by id label w)
-first-by n id label (assign v e) b h = one _ _ _ h
-first-by n id label (trees.block_if no_arms other) b h = absurd b.parts
-first-by n id label (trees.block_if (more_arms (arm test body) others) other) b h = one _ _ _ h
-first-by n id label (trees.logical_if e (stmt inner own w)) b h = one _ _ _ h
-first-by n id label (do_loop l) b h = one _ _ _ h
-first-by n id label (call c es) b h = one _ _ _ h
-first-by n id label (goto l) b h = one _ _ _ h
-first-by n id label continue b h = one _ _ _ h
-first-by n id label return b h = one _ _ _ h
-first-by n id label (stop t) b h = one _ _ _ h
-first-by n id label (print es) b h = one _ _ _ h
-first-by n id label (read es) b h = one _ _ _ h
+first-by : (g : ℕ → Bool) (n id : ℕ) (label : Option ℕ) (w : WhatTree) → NumberedBelow n w → nat_eq id 1 ≡ true → FirstCard (parts.Stmt 1) (cards_by g id label w)
+first-by g n id label (assign v e) b h = one _ _ _ h
+first-by g n id label (trees.block_if no_arms other) b h = absurd b.parts
+first-by g n id label (trees.block_if (more_arms (arm test body) others) other) b h = one _ _ _ h
+first-by g n id label (trees.logical_if e (stmt inner own w)) b h = one _ _ _ h
+first-by g n id label (do_loop l) b h = one _ _ _ h
+first-by g n id label (call c es) b h = one _ _ _ h
+first-by g n id label (goto l) b h = one _ _ _ h
+first-by g n id label continue b h = one _ _ _ h
+first-by g n id label return b h = one _ _ _ h
+first-by g n id label (stop t) b h = one _ _ _ h
+first-by g n id label (print es) b h = one _ _ _ h
+first-by g n id label (read es) b h = one _ _ _ h
 
-body-first : (l : List StmtTree) → Opens 1 [] l → AreNumbered 0 (stmts_of l) → FirstCard (parts.Stmt 1) (cards_in (stmts_of l))
-body-first [] h b = cc
-body-first (stmt id label w ∷ l) h b =
+body-first : (g : ℕ → Bool) (l : List StmtTree) → Opens 1 [] l → AreNumbered 0 (stmts_of l) → FirstCard (parts.Stmt 1) (cards_in g (stmts_of l))
+body-first g [] h b = cc
+body-first g (stmt id label w ∷ l) h b =
     let same : id ≡ 1 = cc in
-    before (parts.Stmt 1) (cards_by id label w) (cards_in (stmts_of l)) (first-by _ id label w b.first.below (ap (λ x. nat_eq x 1) same))
+    before (parts.Stmt 1) (cards_by g id label w) (cards_in g (stmts_of l)) (first-by g _ id label w b.first.below (ap (λ x. nat_eq x 1) same))
 
 decls-first : (ds : List DeclTree) (d : DeclTree) (rest : List DeclTree) → ds ≡ d ∷ rest → FirstCard (parts.Decl 0) (decl_cards 0 ds)
 decls-first [] d rest e = cc
@@ -78,23 +81,23 @@ no-decls : (ds : List DeclTree) → ds ≡ [] → decl_cards 0 ds ≡ []
 no-decls [] e = refl
 no-decls (d ∷ ds) e = cc
 
-first-card : (b : Start) (p : SoFar) (k : ℕ) → Begins b p k → p.around ≡ [] → AreNumbered 0 (stmts_of p.list) → FirstCard (part_at b) (statements_of (whole [] p).module_read)
-unfolding statements_of
+first-card : (b : Start) (p : SoFar) (k : ℕ) → Begins b p k → p.around ≡ [] → AreNumbered 0 (stmts_of p.list) → FirstCard (part_at b) (written_cards (whole [] p).module_read)
+unfolding written_cards
 first-card with_title p k h e n =
-    let m = (whole [] p).module_read in let title = title_cards m in let decls = decl_cards 0 m.decls in let body = cards_in m.body in
+    let m = (whole [] p).module_read in let title = title_cards m in let decls = decl_cards 0 m.decls in let body = cards_in (meant_in m).is_while m.body in
     before _ (title ++ decls ++ body) (card parts.End None end_module ∷ [])
     (before _ (title ++ decls) body (before _ title decls (chosen parts.Title (is_titled p.heading) (card parts.Title None (title_of m)) h refl)))
 first-card with_decl p k h e n =
-    let m = (whole [] p).module_read in let title = title_cards m in let decls = decl_cards 0 m.decls in let body = cards_in m.body in
+    let m = (whole [] p).module_read in let title = title_cards m in let decls = decl_cards 0 m.decls in let body = cards_in (meant_in m).is_while m.body in
     let none = not-chosen (is_titled p.heading) (card parts.Title None (title_of m)) h.bare in
     before _ (title ++ decls ++ body) (card parts.End None end_module ∷ [])
     (before _ (title ++ decls) body (after-none _ title decls none (decls-first p.decls h.some.0 h.some.1 h.some.2)))
 first-card with_statement p k h e n =
-    let m = (whole [] p).module_read in let title = title_cards m in let decls = decl_cards 0 m.decls in let body = cards_in m.body in
+    let m = (whole [] p).module_read in let title = title_cards m in let decls = decl_cards 0 m.decls in let body = cards_in (meant_in m).is_while m.body in
     let none = not-chosen (is_titled p.heading) (card parts.Title None (title_of m)) h.bare in
     let bare : title ++ decls ≡ [] = ap (λ x. x ++ decls) none ∙ no-decls p.decls h.none in
     let opens : Opens 1 [] p.list = sym (ap (λ x. outermost x p.list) e) ∙ h.first in
-    before _ (title ++ decls ++ body) (card parts.End None end_module ∷ []) (after-none _ (title ++ decls) body bare (body-first p.list opens n))
+    before _ (title ++ decls ++ body) (card parts.End None end_module ∷ []) (after-none _ (title ++ decls) body bare (body-first (meant_in m).is_while p.list opens n))
 
 -- ---- the first spot
 
@@ -111,10 +114,10 @@ record FrontsSo (p : SoFar) : Type 0 where
   spot_is : Spot
   spots : List Spot
   is : p.spots ≡ spot_is ∷ spots
-  part : FirstCard spot_is.part (statements_of (whole [] p).module_read)
+  part : FirstCard spot_is.part (written_cards (whole [] p).module_read)
 
 alone-fronts : (f : ℕ) (label : Option ℕ) (cs : List (List ℕ)) → FrontsSo (add_phrase f label cs end_module no_statements)
-unfolding add_spot add_executable statements_of
+unfolding add_spot add_executable written_cards
 alone-fronts f None cs = record { spot_is = spot parts.End f cs; spots = []; is = refl; part = one _ _ _ refl }
 alone-fronts f (Some l) cs = record { spot_is = spot (parts.Stmt 1) f cs; spots = spot parts.End f [] ∷ []; is = refl; part = one _ _ _ refl }
 
@@ -149,20 +152,22 @@ pub record IsFronted (m : ParsedTree) : Type 0 where
   pub written : statements_of m.module_read ≡ card_is ∷ cards
   pub same : is_part card_is.part spot_is.part ≡ true
 
-built-by : (closing : List (List ℕ)) (ss : List StatementTree) → IsWell (build_module closing ss).module_read → FrontsSo (add_all ss no_statements) → IsFronted (build_module closing ss)
-unfolding build_module
+built-by : (closing : List (List ℕ)) (ss : List StatementTree) → IsAsWritten (written_module closing ss).module_read → FrontsSo (add_all ss no_statements) → IsFronted (build_module closing ss)
+unfolding build_module written_module
 built-by closing ss w f =
-    record { well = w; spot_is = f.spot_is; spots = f.spots; is = f.is; card_is = f.part.card_is; cards = f.part.cards; written = f.part.is; same = f.part.same }
+    let read = (written_module closing ss).module_read in
+    let cards = cards_back read w in
+    record { well = elaborated_well read w; spot_is = f.spot_is; spots = f.spots; is = f.is; card_is = f.part.card_is; cards = f.part.cards; written = cards ∙ f.part.is; same = f.part.same }
 
-numbered : (closing : List (List ℕ)) (ss : List StatementTree) → IsWell (build_module closing ss).module_read → AreNumbered 0 (stmts_of (add_all ss no_statements).list)
-unfolding build_module
+numbered : (closing : List (List ℕ)) (ss : List StatementTree) → IsAsWritten (written_module closing ss).module_read → AreNumbered 0 (stmts_of (add_all ss no_statements).list)
+unfolding written_module
 numbered closing ss w = w.body
 
 pub fronted : (m : ParsedTree) → IsBuilt m → IsFronted m
 fronted m h =
     let read = h.begun ++ h.end ∷ [] in
     let none = no-fault (marks_of read) h.faultless in
-    let well = built_well h.closing h.begun h.end h.ends h.formed h.faultless in
+    let well = written_well h.closing h.begun h.end h.ends h.formed h.faultless in
     let closed = all-closed h.begun h.end 0 no_statements nothing_open h.ends h.formed nothing-goes none.2 in
     let f = all-fronts h.begun h.end h.inner h.ends none.0 none.2 closed (numbered h.closing read well) in
     subst IsFronted (sym h.is) (built-by h.closing read well f)

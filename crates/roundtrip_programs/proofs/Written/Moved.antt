@@ -5,12 +5,13 @@ use Rattle.f77_ast.specs.declared.places.Part.{Part}
 use Rattle.f77_ast.specs.declared.places.Part.TheVariants.{Title, Decl, Stmt, ElseIf, Else, Close, End}
 use Rattle.f77_ast.specs.declared.places.Spot.{Spot}
 use Rattle.f77_ast.specs.Trees.{ExprTree, StmtTree, stmt, WhatTree, assign, block_if, logical_if, do_loop, call, goto, continue, return, stop, print, read, ArmTrees, no_arms, more_arms, arm, ElseTree, no_else, otherwise, loop, StmtTrees, no_stmts, more_stmts}
+use Rattle.f77_ast.specs.Hidden.{is_hidden, IfForm, block, reference, do_while, form_of_if}
 use Rattle.f77_ast.specs.DeclTrees.{DeclTree, ModuleTree}
 use Rattle.f77_printer.specs.DeclText.{decl_text}
 use Rattle.f77_printer.specs.StatementText.{what_text}
 use Rattle.f77_printer.specs.PageText.{PageTree, is_part, with_text, with_spot, with_next, with_comments, with_line, lines_text}
 use Rattle.f77_printer.specs.AddedText.{added_text}
-use Rattle.f77_printer.specs.ModuleText.{with_start, with_inner, else_if_text, with_test, with_close, with_statement, with_below, with_arms, with_else, with_statements, has_title, title_text, with_title, with_decl, with_decls, with_end, with_module, first_part}
+use Rattle.f77_printer.specs.ModuleText.{with_start, with_inner, else_if_text, with_test, with_end_if, with_last, with_own, with_statement, with_below, with_arms, with_else, with_statements, has_title, title_text, with_title, with_decl, with_decls, with_end, with_module, first_part}
 use Rattle.roundtrip_programs.specs.Pieces.Moved.{moved_spot}
 use Rattle.roundtrip_programs.specs.Written.Laws.{MovedAreWrittenAlike}
 
@@ -69,25 +70,47 @@ test-moved by id place test p =
     ap (λ x. if nat_eq place 0 then moved_page by p else x) (commented-moved by (ElseIf id place) (else_if_text test) p)
     ∙ chosen-moved by (nat_eq place 0) p (with_line None (else_if_text test) (with_comments (ElseIf id place) p))
 
+closed-moved : (by id : ℕ) (form : IfForm) (p : PageTree) → with_end_if id form (moved_page by p) ≡ moved_page by (with_end_if id form p)
+closed-moved by id block p = commented-moved by (Close id) (codes "END IF") p
+closed-moved by id (reference v f es) p = refl
+closed-moved by id (do_while l test body) p = commented-moved by (Close id) (codes "END DO") p
+
+last-moved : (by id : ℕ) (w : WhatTree) (p : PageTree) → with_last id w (moved_page by p) ≡ moved_page by (with_last id w p)
+last-moved by id (assign v e) p = refl
+last-moved by id (block_if arms other) p = closed-moved by id (form_of_if arms other) p
+last-moved by id (logical_if e s) p = refl
+last-moved by id (do_loop l) p = commented-moved by (Close id) (codes "END DO") p
+last-moved by id (call n es) p = refl
+last-moved by id (goto l) p = refl
+last-moved by id continue p = refl
+last-moved by id return p = refl
+last-moved by id (stop text) p = refl
+last-moved by id (print es) p = refl
+last-moved by id (read es) p = refl
+
+own-moved : (by : ℕ) (added : Part → List ℕ) (id : ℕ) (label : Option ℕ) (w : WhatTree) (p : PageTree) → with_own added id label w (moved_page by p) ≡ moved_page by (with_own added id label w p)
+own-moved by added id label w p =
+    let q = with_start added (Stmt id) p in
+    ap (λ x. with_line label (what_text w) (with_inner w x)) (start-moved by added (Stmt id) p)
+    ∙ ap (λ x. with_line label (what_text w) x) (inner-moved by w q)
+    ∙ line-moved by label (what_text w) (with_inner w q)
+
 mutual
   statement-moved : (by : ℕ) (added : Part → List ℕ) (s : StmtTree) (p : PageTree) → with_statement added s (moved_page by p) ≡ moved_page by (with_statement added s p)
   statement-moved by added (stmt id label w) p =
-      let q = with_start added (Stmt id) p in
-      ap (λ x. with_below added id w (with_line label (what_text w) (with_inner w x))) (start-moved by added (Stmt id) p)
-      ∙ ap (λ x. with_below added id w (with_line label (what_text w) x)) (inner-moved by w q)
-      ∙ ap (with_below added id w) (line-moved by label (what_text w) (with_inner w q))
-      ∙ below-moved by added id w (with_line label (what_text w) (with_inner w q))
+      ap (λ x. if is_hidden id then x else with_last id w (with_below added id w (with_own added id label w (moved_page by p)))) (below-moved by added id w p)
+      ∙ ap (λ x. if is_hidden id then moved_page by (with_below added id w p) else x)
+      (ap (λ x. with_last id w (with_below added id w x)) (own-moved by added id label w p)
+      ∙ ap (with_last id w) (below-moved by added id w (with_own added id label w p))
+      ∙ last-moved by id w (with_below added id w (with_own added id label w p)))
+      ∙ chosen-moved by (is_hidden id) (with_below added id w p) (with_last id w (with_below added id w (with_own added id label w p)))
 
   below-moved : (by : ℕ) (added : Part → List ℕ) (id : ℕ) (w : WhatTree) (p : PageTree) → with_below added id w (moved_page by p) ≡ moved_page by (with_below added id w p)
   below-moved by added id (assign v e) p = refl
   below-moved by added id (block_if arms other) p =
-      let q = with_arms added id 0 arms p in
-      ap (λ x. with_close id (codes "END IF") (with_else added id other x)) (arms-moved by added id 0 arms p)
-      ∙ ap (with_close id (codes "END IF")) (else-moved by added id other q)
-      ∙ commented-moved by (Close id) (codes "END IF") (with_else added id other q)
+      ap (with_else added id other) (arms-moved by added id 0 arms p) ∙ else-moved by added id other (with_arms added id 0 arms p)
   below-moved by added id (logical_if e s) p = refl
-  below-moved by added id (do_loop (loop index first last step body)) p =
-      ap (with_close id (codes "END DO")) (list-moved by added body p) ∙ commented-moved by (Close id) (codes "END DO") (with_statements added body p)
+  below-moved by added id (do_loop (loop index first last step body)) p = list-moved by added body p
   below-moved by added id (call n es) p = refl
   below-moved by added id (goto l) p = refl
   below-moved by added id continue p = refl

@@ -5,7 +5,7 @@ use Rattle.fixed_form.specs.declared.line.Line.{Line}
 use Rattle.f77_ast.specs.DeclTrees.{ParsedTree}
 use Rattle.fx_lists.specs.declared.refusal.Refusal.{Refusal}
 use Rattle.f77_statements.specs.declared.refusal.Cause.{Cause}
-use Rattle.f77_statements.specs.Phrases.{PhraseTree, program, subroutine, specification, simple, logical_if, block_if, else_if, else_part, end_if, do_head, end_do, end_module}
+use Rattle.f77_statements.specs.Phrases.{PhraseTree, program, subroutine, function, specification, simple, logical_if, block_if, else_if, else_part, end_if, do_head, while_head, end_do, end_module}
 use Rattle.f77_statements.specs.Statements.{phrase_of}
 use Rattle.f77_structure.specs.Checks.{fault_of}
 use Rattle.f77_structure.specs.Depth.{is_deep}
@@ -13,12 +13,14 @@ use Rattle.f77_structure.specs.Lists.{is_none_of}
 use Rattle.f77_parser.specs.Gives.{Refused, and_then}
 use Rattle.f77_parser.specs.Statements.{StatementTree, read_as, all_read, marks_of}
 use Rattle.f77_parser.specs.Building.{build_module}
-use Rattle.f77_parser.specs.Modules.{ends_module, closing_at, unless_faulty, module_read, modules_from, parse_of}
+use Rattle.f77_parser.specs.Ends.{ends_module}
+use Rattle.f77_parser.specs.Modules.{module_fault, statements_in, closing_at, unless_faulty, module_read, modules_from, parse_of}
 use Rattle.roundtrip_programs.specs.Statements.Formed.{Each}
 use Rattle.roundtrip_programs.proofs.Statements.Phrases.{statements_read_back}
 use Rattle.roundtrip_programs.specs.ModuleTexts.ModuleLaws.{IsStatement}
-use Rattle.roundtrip_programs.proofs.ModuleTexts.Kept.{Each-append}
+use Rattle.roundtrip_programs.proofs.ModuleTexts.Each.{Each-append}
 use Rattle.roundtrip_programs.specs.Texts.Texts.{IsReadAs}
+use Rattle.roundtrip_programs.proofs.Assigned.{no-fault, read-well}
 
 -- a statement that is not the last of a module
 abbrev pub IsInner : StatementTree → Type 0
@@ -54,6 +56,7 @@ all-formed (l ∷ ls) done ss d h =
 pub only-end : (p : PhraseTree) → ends_module p ≡ true → p ≡ end_module
 only-end (program n) h = cc
 only-end (subroutine n ds) h = cc
+only-end (function form n ds) h = cc
 only-end (specification d) h = cc
 only-end (simple w) h = cc
 only-end (logical_if e w) h = cc
@@ -62,6 +65,7 @@ only-end (else_if e) h = cc
 only-end else_part h = cc
 only-end end_if h = cc
 only-end (do_head d) h = cc
+only-end (while_head l e) h = cc
 only-end end_do h = cc
 only-end end_module h = refl
 
@@ -81,7 +85,7 @@ first-stays closing (s ∷ ss) begun d m ds ms h =
     let whole = begun ++ s ∷ [] in
     let own = closing_at (is_none_of ss) closing in
     either (d ≡ m) (ends_module s.phrase) (and_then (module_read own whole) (λ p. modules_from closing (d ∷ ds ++ p ∷ []) [] ss)) (modules_from closing (d ∷ ds) whole ss) (Ok (m ∷ ms)) h
-    (λ e g. faultless-by (d ≡ m) (fault_of (marks_of whole)) (build_module own whole) (λ p. modules_from closing (d ∷ ds ++ p ∷ []) [] ss) (m ∷ ms) g
+    (λ e g. faultless-by (d ≡ m) (module_fault whole) (build_module own whole) (λ p. modules_from closing (d ∷ ds ++ p ∷ []) [] ss) (m ∷ ms) g
     (λ o x. first-stays closing ss [] d m (ds ++ build_module own whole ∷ []) ms x))
     (λ e g. first-stays closing ss whole d m ds ms g)
 
@@ -93,7 +97,7 @@ first-built closing (s ∷ ss) begun m ms i b f h =
     let own = closing_at (is_none_of ss) closing in
     let formed = Each-append IsStatement begun (s ∷ []) b (record { first = f.first; others = tt }) in
     either (IsBuilt m) (ends_module s.phrase) (and_then (module_read own whole) (λ p. modules_from closing (p ∷ []) [] ss)) (modules_from closing [] whole ss) (Ok (m ∷ ms)) h
-    (λ e g. faultless-by (IsBuilt m) (fault_of (marks_of whole)) (build_module own whole) (λ p. modules_from closing (p ∷ []) [] ss) (m ∷ ms) g
+    (λ e g. faultless-by (IsBuilt m) (module_fault whole) (build_module own whole) (λ p. modules_from closing (p ∷ []) [] ss) (m ∷ ms) g
     (λ o x. record {
       closing = own;
       begun = begun;
@@ -102,7 +106,7 @@ first-built closing (s ∷ ss) begun m ms i b f h =
       inner = i;
       ends = only-end s.phrase e;
       formed = formed;
-      faultless = o;
+      faultless = (no-fault whole o).structure;
     }))
     (λ e g. first-built closing ss whole m ms (Each-append IsInner begun (s ∷ []) i (record { first = e; others = tt })) formed f.others g)
 
@@ -115,4 +119,4 @@ built-by (Err e) closing m f h = cc
 
 pub read-alone : (text : List ℕ) (m : ParsedTree) → IsReadAs text (m ∷ []) → IsBuilt m
 unfolding parse_of
-read-alone text m r = built-by (all_read [] r.lines.lines) r.lines.closing m (λ ss e. all-formed r.lines.lines [] ss tt e) r.parsed
+read-alone text m r = built-by (statements_in r.lines.lines) r.lines.closing m (λ ss e. all-formed r.lines.lines [] ss tt (read-well r.lines.lines ss e).all) r.parsed

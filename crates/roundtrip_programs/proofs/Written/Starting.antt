@@ -1,7 +1,7 @@
 -- The first statement of a module.
 use Rattle.std.proofs.Common.{◌≡◌, ℕ, ◌≤◌, Bool, true, false, List, [], refl, sym, ◌∙◌, arith}
 use Rattle.std.specs.Prelude.{Option, Some, None}
-use Rattle.f77_statements.specs.Phrases.{PhraseTree, program, subroutine, specification, simple, logical_if, block_if, else_if, else_part, end_if, do_head, end_do, end_module}
+use Rattle.f77_statements.specs.Phrases.{PhraseTree, program, subroutine, function, specification, simple, logical_if, block_if, else_if, else_part, end_if, do_head, while_head, end_do, end_module}
 use Rattle.fx_lists.specs.declared.code.Code.{Code}
 use Rattle.fx_lists.specs.declared.refusal.Refusal.{Refusal}
 use Rattle.fx_lists.specs.Refusals.{refuse_if}
@@ -9,9 +9,9 @@ use Rattle.f77_structure.specs.Blocks.{parse_executable}
 use Rattle.f77_structure.specs.Order.{check_next, nothing_ordered}
 use Rattle.f77_structure.specs.Steps.{ended_if, by_role, nothing_open}
 use Rattle.f77_parser.specs.Roles.{role_of}
-use Rattle.f77_parser.specs.Modules.{ends_module}
+use Rattle.f77_parser.specs.Ends.{ends_module}
 use Rattle.f77_parser.specs.Statements.{StatementTree, mark_of}
-use Rattle.f77_parser.specs.SoFar.{spot, add_spot, add_executable, add_logical_if, open_block}
+use Rattle.f77_parser.specs.SoFar.{spot, add_spot, add_executable, add_logical_if, open_block, add_while}
 use Rattle.f77_parser.specs.Building.{add_statement, no_statements}
 use Rattle.roundtrip_programs.proofs.ModuleTexts.Calm.{true-false, stood-found}
 use Rattle.roundtrip_programs.proofs.Written.Beginning.{Start, with_title, with_decl, with_statement, part_at, Begins, Leads}
@@ -34,9 +34,10 @@ two-least = omega arith
 
 pub starts : (f : ℕ) (label : Option ℕ) (deep : Bool) (cs : List (List ℕ)) (phrase : PhraseTree) → ends_module phrase ≡ false → (by_role (role_of phrase) label f nothing_open).found ≡ None
     → Starts (record { first = f; label = label; deep = deep; comments = cs; phrase = phrase })
-unfolding add_spot add_executable add_logical_if open_block check_next parse_executable
+unfolding add_spot add_executable add_logical_if open_block add_while check_next parse_executable
 starts f label deep cs (program n) e h = record { start = with_title; begins = refl; leads = refl }
 starts f label deep cs (subroutine n ds) e h = record { start = with_title; begins = refl; leads = refl }
+starts f label deep cs (function form n ds) e h = record { start = with_title; begins = refl; leads = refl }
 starts f label deep cs (specification d) e h = record { start = with_decl; begins = record { bare = refl; some = (d, [], refl) }; leads = refl }
 starts f None deep cs (simple w) e h = record { start = with_statement; begins = record { bare = refl; none = refl; first = refl; counted = one-least }; leads = refl }
 starts f (Some l) deep cs (simple w) e h = record { start = with_statement; begins = record { bare = refl; none = refl; first = refl; counted = one-least }; leads = refl }
@@ -49,6 +50,8 @@ starts f label deep cs else_part e h = absurd (stray _ _ _ h)
 starts f label deep cs end_if e h = absurd (stray _ _ _ (sym (stood-found label (ended_if f nothing_open)) ∙ h))
 starts f None deep cs (do_head d) e h = record { start = with_statement; begins = record { bare = refl; none = refl; first = refl; counted = one-least }; leads = refl }
 starts f (Some l) deep cs (do_head d) e h = record { start = with_statement; begins = record { bare = refl; none = refl; first = refl; counted = one-least }; leads = refl }
+starts f None deep cs (while_head l t) e h = record { start = with_statement; begins = record { bare = refl; none = refl; first = refl; counted = one-least }; leads = refl }
+starts f (Some k) deep cs (while_head l t) e h = record { start = with_statement; begins = record { bare = refl; none = refl; first = refl; counted = one-least }; leads = refl }
 starts f None deep cs end_do e h = absurd (stray _ _ _ h)
 starts f (Some l) deep cs end_do e h = absurd (stray _ _ _ h)
 starts f label deep cs end_module e h = cc

@@ -1,10 +1,11 @@
 -- Parentheses stand no deeper in what is written than in what was read.
-use Rattle.std.specs.Prelude.{◌≡◌, ℕ, List, Ok, false}
+use Rattle.std.specs.Prelude.{◌≡◌, ℕ, List, [], ◌∷◌, ◌++◌, None, Ok, false}
 use Rattle.f77_ast.specs.Trees.{continue}
 use Rattle.f77_structure.specs.Depth.{is_deep}
 use Rattle.f77_statements.specs.Phrases.{PhraseTree, simple, else_part, end_if, end_do, end_module}
 use Rattle.f77_statements.specs.Statements.{phrase_of}
-use Rattle.f77_parser.specs.Statements.{StatementTree}
+use Rattle.f77_structure.specs.Checks.{fault_of}
+use Rattle.f77_parser.specs.Statements.{StatementTree, marks_of}
 use Rattle.f77_parser.specs.Building.{build_module}
 use Rattle.roundtrip_programs.specs.Statements.Formed.{Each}
 use Rattle.roundtrip_programs.specs.Statements.Written.{as_written}
@@ -30,6 +31,7 @@ FlatStatement s = IsFlat s.phrase
 abbrev pub FlatCard : Card → Type 0
 FlatCard c = IsFlat c.phrase
 
--- each statement that is written of a module stands no deeper than those that the module was built of
+-- each statement that is written of a module, which goes up to its END and is without a fault, stands no deeper than those that the module was built of
 abbrev pub CardsFlat : Type 0
-CardsFlat = (closing : List (List ℕ)) (ss : List StatementTree) → Each IsStatement ss → Each FlatStatement ss → Each FlatCard (statements_of (build_module closing ss).module_read)
+CardsFlat = (closing : List (List ℕ)) (begun : List StatementTree) (s : StatementTree) → s.phrase ≡ end_module → Each IsStatement (begun ++ s ∷ []) → Each FlatStatement (begun ++ s ∷ [])
+    → fault_of (marks_of (begun ++ s ∷ [])) ≡ None → Each FlatCard (statements_of (build_module closing (begun ++ s ∷ [])).module_read)

@@ -8,7 +8,7 @@ use Rattle.f77_structure.specs.Checks.{fault_of}
 use Rattle.f77_structure.specs.Lists.{is_none_of}
 use Rattle.f77_parser.specs.Statements.{StatementTree, marks_of}
 use Rattle.f77_parser.specs.Building.{build_module}
-use Rattle.f77_parser.specs.Modules.{closing_at, modules_from}
+use Rattle.f77_parser.specs.Modules.{closing_at, module_fault, modules_from}
 use Rattle.f77_printer.specs.declared.added.Added.{Added}
 use Rattle.f77_printer.specs.PageText.{lines_text}
 use Rattle.f77_printer.specs.AddedText.{added_text}
@@ -43,7 +43,7 @@ BuiltAgain = (m : ModuleTree) (closing : List (List ℕ)) (ss : List StatementTr
 abbrev pub IsStatement : StatementTree → Type 0
 IsStatement s = IsPhrase s.phrase
 
--- a module, which goes up to its END and is without a fault, is numbered in the order of its text
+-- a module, which goes up to its END and is without a fault, stands for one that is numbered in the order of its text
 abbrev pub BuiltWell : Type 0
 BuiltWell = (closing : List (List ℕ)) (begun : List StatementTree) (s : StatementTree) → s.phrase ≡ end_module → Each IsStatement (begun ++ s ∷ [])
     → fault_of (marks_of (begun ++ s ∷ [])) ≡ None → IsWell (build_module closing (begun ++ s ∷ [])).module_read
@@ -64,9 +64,10 @@ pub record IsCard (c : Card) : Type 0 where
   pub phrase : IsPhrase c.phrase
   pub same : as_written c.phrase ≡ c.phrase
 
--- what is written of a module is formed as what was read of it
+-- what is written of a module, which goes up to its END and is without a fault, is formed as what was read of it
 abbrev pub CardsRead : Type 0
-CardsRead = (closing : List (List ℕ)) (ss : List StatementTree) → Each IsRead ss → Each IsCard (statements_of (build_module closing ss).module_read)
+CardsRead = (closing : List (List ℕ)) (begun : List StatementTree) (s : StatementTree) → s.phrase ≡ end_module → Each IsRead (begun ++ s ∷ [])
+    → fault_of (marks_of (begun ++ s ∷ [])) ≡ None → Each IsCard (statements_of (build_module closing (begun ++ s ∷ [])).module_read)
 
 -- the text of a module is that of its statements, each behind its comments and what is added, and the comments at its end
 abbrev pub WrittenByCards : Type 0
@@ -79,11 +80,11 @@ pub record OneModule (m : ModuleTree) (closing : List (List ℕ)) (ss : List Sta
   pub same : (build_module closing ss).module_read ≡ m
 
 abbrev pub ReadAlone : Type 0
-ReadAlone = (m : ModuleTree) (closing : List (List ℕ)) (ss : List StatementTree) → IsWell m → AreWritten m ss → fault_of (marks_of ss) ≡ None → OneModule m closing ss
+ReadAlone = (m : ModuleTree) (closing : List (List ℕ)) (ss : List StatementTree) → IsWell m → AreWritten m ss → module_fault ss ≡ None → OneModule m closing ss
 
 -- before others they are read as that module, and the others behind it; the last module has the comments at the end
 abbrev pub ReadNext : Type 0
-ReadNext = (m : ModuleTree) (closing : List (List ℕ)) (done : List ParsedTree) (ss more : List StatementTree) → AreWritten m ss → fault_of (marks_of ss) ≡ None
+ReadNext = (m : ModuleTree) (closing : List (List ℕ)) (done : List ParsedTree) (ss more : List StatementTree) → AreWritten m ss → module_fault ss ≡ None
     → modules_from closing done [] (ss ++ more) ≡ modules_from closing (done ++ build_module (closing_at (is_none_of more) closing) ss ∷ []) [] more
 
 -- in a module without a fault at most 64 blocks stand in one another

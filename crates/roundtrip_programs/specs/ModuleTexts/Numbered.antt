@@ -1,7 +1,12 @@
 -- Modules as reading gives them: the executable statements numbered from 1 in the order of the text, and a title that fits.
-use Rattle.std.specs.Prelude.{◌≡◌, ℕ, ◌+◌, Bool, true, false, List, [], None, codes}
+use Rattle.std.specs.Prelude.{◌≡◌, ℕ, ◌+◌, ◌≤◌, Bool, true, false, List, [], ◌∷◌, ◌++◌, Option, Some, None, codes}
+use Rattle.f77_ast.specs.declared.module.FunctionForm.{FunctionForm}
 use Rattle.f77_ast.specs.Trees.{StmtTree, stmt, WhatTree, assign, block_if, logical_if, do_loop, call, goto, continue, return, stop, print, read, arm, ArmTrees, no_arms, more_arms, ElseTree, no_else, otherwise, LoopTree, loop, StmtTrees, no_stmts, more_stmts}
 use Rattle.f77_ast.specs.DeclTrees.{ModuleTree}
+use Rattle.f77_printer.specs.ModuleText.{titled_dummies}
+use Rattle.f77_parser.specs.Elaborated.{meant_in, elaborated}
+use Rattle.roundtrip_programs.specs.ModuleTexts.Folded.{folded, WhilesFit}
+use Rattle.roundtrip_programs.specs.ModuleTexts.Cards.{cards_in, while_numbers}
 
 -- ---- the number of the last statement, behind so many others
 
@@ -89,10 +94,27 @@ TitleFits true true name dummies = dummies ≡ []
 TitleFits true false name dummies = record { alone : dummies ≡ []; unnamed : name ≡ codes "MAIN" }
 TitleFits false titled name dummies = titled ≡ false
 
--- a main program or a subroutine in which no block IF stands for a statement of another form
+-- the last dummy of a function is its name, and a main program is none
+abbrev pub FunctionFits : Option FunctionForm → Bool → List ℕ → List (List ℕ) → Type 0
+FunctionFits None main name dummies = Unit {0}
+FunctionFits (Some form) main name dummies = record { called : main ≡ false; last : titled_dummies dummies ++ name ∷ [] ≡ dummies }
+
+-- a module as it is written: its statements have numbers in the order of the text, of which its DO WHILEs are listed
+pub record IsAsWritten (w : ModuleTree) : Type 0 where
+  pub title : TitleFits w.main w.titled w.name w.dummies
+  pub function : FunctionFits w.function w.main w.name w.dummies
+  pub body : AreNumbered 0 w.body
+  pub few : last_in 0 w.body ≤ 4096
+  pub whiles : WhilesFit (meant_in w).is_while w.body
+  pub listed : while_numbers (cards_in (meant_in w).is_while w.body) ≡ w.whiles
+  pub plain : w.references ≡ []
+
+-- a module that is elaborated from one that is written
 pub record IsWell (m : ModuleTree) : Type 0 where
   pub title : TitleFits m.main m.titled m.name m.dummies
-  pub body : AreNumbered 0 m.body
-  pub no_function : m.function ≡ None
-  pub no_references : m.references ≡ []
-  pub no_whiles : m.whiles ≡ []
+  pub function : FunctionFits m.function m.main m.name m.dummies
+  pub body : AreNumbered 0 (folded m).body
+  pub few : last_in 0 (folded m).body ≤ 4096
+  pub whiles : WhilesFit (meant_in m).is_while (folded m).body
+  pub listed : while_numbers (cards_in (meant_in m).is_while (folded m).body) ≡ m.whiles
+  pub same : elaborated (folded m) ≡ m

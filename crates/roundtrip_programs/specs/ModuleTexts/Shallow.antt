@@ -2,6 +2,8 @@
 use Rattle.std.specs.Prelude.{◌≡◌, ℕ, suc, false, nat_le}
 use Rattle.f77_ast.specs.Trees.{StmtTree, stmt, WhatTree, assign, block_if, logical_if, do_loop, call, goto, continue, return, stop, print, read, arm, ArmTrees, no_arms, more_arms, ElseTree, no_else, otherwise, LoopTree, loop, StmtTrees, no_stmts, more_stmts}
 use Rattle.f77_ast.specs.DeclTrees.{ModuleTree}
+use Rattle.f77_parser.specs.Elaborated.{meant_in}
+use Rattle.roundtrip_programs.specs.ModuleTexts.Folded.{folded, WhilesFit}
 
 -- a block more may stand in so many
 abbrev pub HasRoom : ℕ → Type 0
@@ -40,5 +42,7 @@ abbrev mutual
   AreShallow n no_stmts = Unit {0}
   AreShallow n (more_stmts s others) = record { first : IsShallow n s; behind : AreShallow n others }
 
-abbrev pub IsNested : ModuleTree → Type 0
-IsNested m = AreShallow 0 m.body
+-- as they are written
+pub record IsNested (m : ModuleTree) : Type 0 where
+  pub shallow : AreShallow 0 (folded m).body
+  pub whiles : WhilesFit (meant_in m).is_while (folded m).body

@@ -1,12 +1,13 @@
 -- What was written is read as it was.
 use Rattle.std.specs.Prelude.{◌≡◌, ℕ, List, ◌++◌, Option, Some, None, Ok, false}
 use Rattle.fixed_form.specs.Body as body
-use Rattle.f77_ast.specs.Trees.{ExprTree, StmtTrees, stmt, WhatTree, arm, ArmTrees, more_arms, ElseTree, loop}
+use Rattle.f77_ast.specs.Trees.{ExprTree, ExprTrees, element, StmtTrees, stmt, WhatTree, assign, arm, ArmTrees, more_arms, ElseTree, loop}
 use Rattle.f77_ast.specs.Trees as trees
+use Rattle.f77_ast.specs.Hidden.{block, reference, do_while, form_of_if}
 use Rattle.f77_exprs.specs.declared.at.Notes.{Notes}
 use Rattle.f77_exprs.specs.State.{State}
 use Rattle.f77_exprs.specs.Grammar.{expression, variable}
-use Rattle.f77_statements.specs.Phrases.{PhraseTree, logical_if, block_if, do_head}
+use Rattle.f77_statements.specs.Phrases.{PhraseTree, simple, logical_if, block_if, do_head, while_head}
 use Rattle.f77_statements.specs.Statements.{phrase_of}
 use Rattle.f77_printer.specs.ExprText.{expr_text}
 use Rattle.f77_printer.specs.Layout.{stripped}
@@ -52,9 +53,15 @@ pub record StatementsReadBack : Type 0 where
   -- so reading, writing and reading again gives what was read
   pub read_back : (body : List ℕ) (p : PhraseTree) → phrase_of body ≡ Ok p → phrase_of (stripped false (phrase_text p)) ≡ Ok (as_written p)
 
--- the line that the printer writes of a statement with statements in it is that of the phrase which begins it
+-- the line that the printer writes of a statement with statements in it is that of the phrase which begins it; of a block IF by what it
+-- stands for
 pub record LinesAreWritten : Type 0 where
   pub loop_line : (i : List ℕ) (first last : ExprTree) (step : Option ExprTree) (body : StmtTrees)
       → what_text (trees.do_loop (loop i first last step body)) ≡ phrase_text (do_head (record { label = None; index = i; first = first; last = last; step = step }))
-  pub block_line : (test : ExprTree) (body : StmtTrees) (others : ArmTrees) (other : ElseTree) → what_text (trees.block_if (more_arms (arm test body) others) other) ≡ phrase_text (block_if test)
+  pub block_line : (test : ExprTree) (body : StmtTrees) (others : ArmTrees) (other : ElseTree) → form_of_if (more_arms (arm test body) others) other ≡ block
+      → what_text (trees.block_if (more_arms (arm test body) others) other) ≡ phrase_text (block_if test)
+  pub reference_line : (v : ExprTree) (f : List ℕ) (es : ExprTrees) (arms : ArmTrees) (other : ElseTree) → form_of_if arms other ≡ reference v f es
+      → what_text (trees.block_if arms other) ≡ phrase_text (simple (assign v (element f es)))
+  pub while_line : (l : ℕ) (test : ExprTree) (body : StmtTrees) (arms : ArmTrees) (other : ElseTree) → form_of_if arms other ≡ do_while l test body
+      → what_text (trees.block_if arms other) ≡ phrase_text (while_head None test)
   pub logical_line : (e : ExprTree) (id : ℕ) (label : Option ℕ) (w : WhatTree) → what_text (trees.logical_if e (stmt id label w)) ≡ phrase_text (logical_if e w)

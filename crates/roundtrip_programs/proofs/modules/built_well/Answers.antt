@@ -1,4 +1,4 @@
-use Rattle.roundtrip_programs.proofs.ModuleTexts.Well.{built_well}
+use Rattle.roundtrip_programs.proofs.ModuleTexts.Built.{built_well}
 use Rattle.roundtrip_programs.proofs.modules.built_well.Goals as goal
 
 pub returns : goal.returns

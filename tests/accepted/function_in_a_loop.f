@@ -1,0 +1,10 @@
+C a loop that refers to a function: its name is not private, so the loop is serial
+      INTEGER A(9)
+      DO I=1,9
+      A(I)=NF(I)
+      END DO
+      PRINT *,A(3)
+      END
+      FUNCTION NF(K)
+      NF=2*K
+      END

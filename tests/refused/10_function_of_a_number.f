@@ -1,0 +1,5 @@
+C a dummy is a name
+      END
+      FUNCTION NF(1)
+      NF=1
+      END

@@ -1,0 +1,5 @@
+C a FUNCTION has no length
+      END
+      INTEGER*4 FUNCTION NF(K)
+      NF=1
+      END

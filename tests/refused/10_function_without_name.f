@@ -1,0 +1,4 @@
+C a FUNCTION without a name
+      END
+      FUNCTION (K)
+      END

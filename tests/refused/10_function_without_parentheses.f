@@ -1,0 +1,5 @@
+C a FUNCTION has parentheses, also without dummies
+      END
+      FUNCTION NF
+      NF=1
+      END

@@ -1,0 +1,3 @@
+C an intrinsic function has arguments
+      I=MAX()
+      END

@@ -1,0 +1,4 @@
+C a DO WHILE whose parenthesis stays open
+      DO WHILE ((I.EQ.1)
+      END DO
+      END

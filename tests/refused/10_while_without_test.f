@@ -1,0 +1,4 @@
+C a DO WHILE without a test
+      DO WHILE ()
+      END DO
+      END

@@ -1,3 +1,0 @@
-C FUNCTION is outside the profile
-      FUNCTION F(I)
-      END

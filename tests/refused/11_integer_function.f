@@ -1,3 +1,0 @@
-C INTEGER FUNCTION is outside the profile
-      INTEGER FUNCTION F(I)
-      END

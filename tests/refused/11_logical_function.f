@@ -1,3 +1,0 @@
-C LOGICAL FUNCTION is outside the profile
-      LOGICAL FUNCTION F(I)
-      END

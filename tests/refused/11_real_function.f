@@ -1,0 +1,3 @@
+C REAL FUNCTION is outside the profile
+      REAL FUNCTION F(I)
+      END

@@ -1,0 +1,5 @@
+C a reference of a subroutine
+      I=NS(1)
+      END
+      SUBROUTINE NS(K)
+      END
