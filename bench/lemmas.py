@@ -15,7 +15,7 @@ from dataclasses import dataclass, field
 from typing import Dict, List, Optional, Tuple
 
 TOP = os.path.dirname(os.path.dirname(os.path.abspath(__file__)))
-MOST_COPIES = 8
+MOST_COPIES = 9
 LEFT_OUT = ('Answers', 'Invariants', 'Proof', 'Lib')
 TOKEN = re.compile(r'"(?:[^"\\]|\\.)*"|[^\s(){}\[\],;]+|[(){}\[\],;]')
 USE = re.compile(r'(?:pub )?use ([^\s{]+)\.\{(.*)\}$')

@@ -20,7 +20,7 @@ LONG: Dict[str, str] = {
     'Index': 'Each iteration of a parallel loop has its own DO variable. This one cannot be copied (it is in COMMON or EQUIVALENCE, a dummy, '
              'saved, or has DATA), or may be read after the loop, or stands in the bounds of its own DO. Compute the value after the loop.',
     'Name': 'Copies of the variable would help, but an iteration cannot have one: the variable is in COMMON or EQUIVALENCE, a dummy, saved, or has '
-            'DATA, or is the name of a function; or the bounds of the DO read it. Work in a local variable, and set the other one after the loop.',
+            'DATA; or the bounds of the DO read it. Work in a local variable, and set the other one after the loop.',
     'Carried': 'An iteration may read what an earlier one wrote, as in sums, in recurrences, and of a variable that is written under a condition '
                'alone. Compute from what the loop does not write, or write the variable in each iteration before it is read.',
     'Live': 'Copies of the variable would help, but the value that the last iteration leaves may be read after the loop, also by callers and in '

@@ -1,4 +1,4 @@
-C a loop that refers to a function: its name is not private, so the loop is serial
+C a loop that refers to a function, of which each iteration has its own value
       INTEGER A(9)
       DO I=1,9
       A(I)=NF(I)

@@ -14,7 +14,8 @@ use Rattle.preconditions.specs.transformers.Given.{Callees}
 use Rattle.preconditions.specs.transformers.Jumps.{is_end}
 use Rattle.preconditions.specs.transformers.Lists.{list_of}
 use Rattle.preconditions.specs.transformers.Loops.{loop_parts}
-use Rattle.preconditions.specs.transformers.Statement.{parts_do, where_holds, if_does, choice, without_arm, without_arms, stmt_transformer, what_transformer, each_transformer, arm_transformers, arm_transformer, else_transformer, body_transformer, list_transformer, at, at_stmt, at_parts, at_list, at_arms, at_arm, at_else, at_loop}
+use Rattle.preconditions.specs.transformers.Whiles.{while_in, while_or}
+use Rattle.preconditions.specs.transformers.Statement.{parts_do, where_holds, if_does, choice, without_arm, without_arms, stmt_transformer, what_transformer, each_transformer, arm_transformers, arm_transformer, inner_transformers, inner_of_stmt, inner_of_what, inner_of_arms, inner_of_arm, else_transformer, body_transformer, list_transformer, at, at_stmt, at_parts, at_list, at_arms, at_arm, at_else, at_loop}
 use Rattle.preconditions.specs.transformers.Modules.{summary_of, transformers_of}
 use Rattle.call_graph.specs.CallsIn.{CallAt, stmt_calls, what_calls, list_calls, arms_calls, arm_calls, else_calls, loop_calls}
 use Rattle.fx_lists.proofs.Lists.{added, joined}
@@ -59,7 +60,38 @@ module _ (m : ScopeTree) (cs ds : Callees) where
         (arm_same a before r.0) (arms_same rest (without_arm a m before) r.1)
 
     arm_same : (a : ArmTree) (before : System) → arm_calls a ≡ [] → arm_transformer a m cs before ≡ arm_transformer a m ds before
-    arm_same (tree.arm e body) before h = ap (λ ts. where_holds (meet before (condition_of m.scalars e).yes) (list_of false body ts)) (each_same body false h)
+    arm_same (tree.arm e body) before h =
+        ap (λ t. where_holds (meet before (condition_of m.scalars e).yes) t)
+        (ap (λ ts. while_or (while_in body) m ts (list_of false body (each_transformer body m cs false))) (inner_same body h)
+        ∙ ap (λ ts. while_or (while_in body) m (inner_transformers body m ds) (list_of false body ts)) (each_same body false h))
+
+    -- those of the labelled block IF of a DO WHILE
+    inner_same : (t : StmtTrees) → list_calls t ≡ [] → inner_transformers t m cs ≡ inner_transformers t m ds
+    inner_same tree.no_stmts h = refl
+    inner_same (tree.more_stmts s rest) h = inner_stmt s (neither (stmt_calls s) (list_calls rest) h).0
+
+    inner_stmt : (s : StmtTree) → stmt_calls s ≡ [] → inner_of_stmt s m cs ≡ inner_of_stmt s m ds
+    inner_stmt (tree.stmt n label w) h = inner_what w n h
+
+    inner_what : (w : WhatTree) (n : ℕ) → what_calls w n ≡ [] → inner_of_what w m cs ≡ inner_of_what w m ds
+    inner_what (tree.assign a b) n h = refl
+    inner_what (tree.block_if arms other) n h = inner_arms arms (neither (arms_calls arms) (else_calls other) h).0
+    inner_what (tree.logical_if e s) n h = refl
+    inner_what (tree.do_loop l) n h = refl
+    inner_what (tree.call x es) n h = refl
+    inner_what (tree.goto l) n h = refl
+    inner_what tree.continue n h = refl
+    inner_what tree.return n h = refl
+    inner_what (tree.stop text) n h = refl
+    inner_what (tree.print es) n h = refl
+    inner_what (tree.read es) n h = refl
+
+    inner_arms : (arms : ArmTrees) → arms_calls arms ≡ [] → inner_of_arms arms m cs ≡ inner_of_arms arms m ds
+    inner_arms tree.no_arms h = refl
+    inner_arms (tree.more_arms a rest) h = inner_arm a (neither (arm_calls a) (arms_calls rest) h).0
+
+    inner_arm : (a : ArmTree) → arm_calls a ≡ [] → inner_of_arm a m cs ≡ inner_of_arm a m ds
+    inner_arm (tree.arm e body) h = each_same body false h
 
     else_same : (other : ElseTree) → else_calls other ≡ [] → else_transformer other m cs ≡ else_transformer other m ds
     else_same tree.no_else h = refl

@@ -14,6 +14,11 @@ pub mod Rows
 pub mod Arms
 pub mod Loops
 pub mod Lists
+pub mod Never
+pub mod Backs
+pub mod Tests
+pub mod Bodies
+pub mod Whiles
 pub mod Statements
 pub mod MainNames
 pub mod Placing

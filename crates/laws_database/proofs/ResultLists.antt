@@ -1,11 +1,7 @@
 -- What holds of each of some lists.
-use Rattle.std.proofs.Common.{◌≡◌, ℕ, Bool, true, false, List, [], ◌∷◌, ◌++◌, refl, sym, ap, ◌∙◌, true≢false}
-use Rattle.std.specs.Prelude.{map, reverse, bytes_eq}
-use mathlib.Core.List.{reverse-cons, map-append}
-use Rattle.std.proofs.lemmas.Slice.Eq.{bytes_eq-Decides}
+use Rattle.std.proofs.Common.{List, [], ◌∷◌}
+use Rattle.std.specs.Prelude.{map}
 use Rattle.call_graph.specs.CallsIn.{Each}
-use Rattle.fx_lists.proofs.Texts.{turned, same_name}
-use Rattle.fx_lists.proofs.Lists.{map_reverse}
 use Rattle.call_graph.proofs.EachLaws.{each_both}
 
 pub each_mapped : {A B : Type 0} (P : B → Type 0) (h : A → B) (xs : List A) → Each P (map h xs) → Each (λ x. P (h x)) xs

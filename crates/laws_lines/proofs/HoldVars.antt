@@ -1,23 +1,27 @@
 -- The variables of what holds where statements begin and after them: tracked cells before the statement.
-use Rattle.std.proofs.Common.{ℕ, Bool, false, List, [], ◌∷◌, ◌++◌}
+use Rattle.std.proofs.Common.{ℕ, Bool, false, List, [], ◌∷◌, ◌++◌, Option, Some, None}
 use Rattle.std.specs.Prelude.{if◌then◌else◌}
 use Rattle.affine_systems.specs.declared.row.System.{System}
 use Rattle.affine_systems.proofs.Basics.{if_cases}
+use Rattle.hull_projection.specs.Clean.{clean}
 use Rattle.hull_projection.specs.Hull.{hull}
 use Rattle.f77_ast.specs.Trees.{ExprTree, StmtTree, WhatTree, ArmTree, ArmTrees, ElseTree, LoopTree, StmtTrees}
 use Rattle.f77_ast.specs.Trees as tree
+use Rattle.f77_ast.specs.declared.results.At.{At}
 use Rattle.affine_forms.specs.Conditions.{condition_of}
+use Rattle.preconditions.specs.transformer_algebra.Transformers.{iterate, apply}
 use Rattle.preconditions.specs.call_translation.Scopes.{ScopeTree}
-use Rattle.preconditions.specs.transformers.Jumps.{unstructured}
+use Rattle.preconditions.specs.transformers.Jumps.{is_end, unstructured}
 use Rattle.preconditions.specs.transformers.Lists.{number_of, each_at, list_at}
-use Rattle.preconditions.specs.Statement.{PreconditionList, hull_from, some_holds, if_true, if_false, parts_of, each_iteration, done, throughout, past_arm, past_arms, after, after_what, after_each, after_arms, after_arm, after_else, after_loop_of, at_stmt, at_parts, at_each, at_all, at_arms, at_arm, at_else, at_loop, at_list}
+use Rattle.preconditions.specs.transformers.Whiles.{WhileTree, while_in}
+use Rattle.preconditions.specs.Statement.{PreconditionList, hull_from, some_holds, if_true, if_false, parts_of, each_iteration, done, throughout, while_iteration_of, while_begins, while_ends, while_found, past_arm, past_arms, after, after_what, after_each, after_arms, after_arm, at_goto, goto_of_stmt, goto_of_what, goto_of_arms, goto_of_arm, before_last, after_else, after_loop_of, at_stmt, at_parts, at_each, at_all, at_arms, at_arm, at_else, at_loop, at_list}
 use Rattle.laws_lines.specs.Variables.{IsCellOf}
-use Rattle.laws_lines.proofs.SystemVars.{IsNeat, meet_neat}
+use Rattle.laws_lines.proofs.SystemVars.{IsNeat, clean_neat, meet_neat}
 use Rattle.laws_lines.proofs.HullVars.{hull_neat}
 use Rattle.laws_lines.proofs.FormVars.{infeasible_neat}
-use Rattle.laws_lines.proofs.RuleVars.{IsDone, AreDone, apply_neat, without_neat}
+use Rattle.laws_lines.proofs.RuleVars.{IsDone, AreDone, apply_neat, without_neat, iterate_done}
 use Rattle.laws_lines.proofs.LoopVars.{IsLoopOf, iteration_neat, after_neat}
-use Rattle.laws_lines.proofs.StatementVars.{AllAt, all_at-append, list_done, Scope, yes_neat, no_neat, parts_of_loop}
+use Rattle.laws_lines.proofs.StatementVars.{AllAt, all_at-append, list_done, Scope, yes_neat, no_neat, while_iteration_done, parts_of_loop}
 
 -- each of some systems
 abbrev pub AreNeat : (ℕ → Type 0) → List System → Type 0
@@ -65,6 +69,23 @@ module _ (ok : ℕ → Type 0) (m : ScopeTree) (a : Scope ok m) (t : Preconditio
   throughout_neat : (whole : Bool) (body : StmtTrees) (p : System) → Neat p → Neat (throughout whole body t p)
   throughout_neat whole body p h = without_neat (IsCellOf ok) (list_at t whole body).cells p h
 
+  -- ---- DO WHILE
+
+  begins_neat : (o : Option WhileTree) (p : System) → Neat p → Neat (while_begins o m t p)
+  begins_neat None p h = h
+  begins_neat (Some w) p h =
+      let i = while_iteration_of w m t in
+      let held = apply (iterate i) p in
+      clean_neat (IsCellOf ok) held (apply_neat ok (iterate i) p (iterate_done ok i (while_iteration_done ok m a w (each_at t w.body) (each_done w.body))) h)
+
+  ends_neat : (o : Option WhileTree) (p q r : System) → Neat p → Neat q → Neat r → Neat (while_ends o m p q r)
+  ends_neat None p q r h i k = k
+  ends_neat (Some w) p q r h i k = hull_neat (IsCellOf ok) (if_false m w.test p) (if_false m w.test q) (false_neat w.test p h) (false_neat w.test q i)
+
+  found_neat : (o : Option WhileTree) (as' bs : List (At System)) → AllAt (IsNeat (IsCellOf ok)) as' → AllAt (IsNeat (IsCellOf ok)) bs → AllAt (IsNeat (IsCellOf ok)) (while_found o as' bs)
+  found_neat None as' bs h k = k
+  found_neat (Some w) as' bs h k = h
+
   past_neat : (x : ArmTree) (p : System) → Neat p → Neat (past_arm x m p)
   past_neat (tree.arm e body) p h = false_neat e p h
 
@@ -107,8 +128,47 @@ module _ (ok : ℕ → Type 0) (m : ScopeTree) (a : Scope ok m) (t : Preconditio
     after_one_arm (tree.arm e body) p h =
         let q = if_true m e p in
         let k = true_neat e p h in
-        if_cases (IsNeat (IsCellOf ok)) (unstructured false body) (throughout false body t q) (after_each body m t q)
-        (λ u. throughout_neat false body q k) (λ u. after_stmts body q k)
+        let b = while_begins (while_in body) m t q in
+        ends_neat (while_in body) q (at_goto body m t b) (if unstructured false body then throughout false body t q else after_each body m t q) k
+        (goto_neat body b (begins_neat (while_in body) q k))
+        (if_cases (IsNeat (IsCellOf ok)) (unstructured false body) (throughout false body t q) (after_each body m t q)
+        (λ u. throughout_neat false body q k) (λ u. after_stmts body q k))
+
+    goto_neat : (ss : StmtTrees) (p : System) → Neat p → Neat (at_goto ss m t p)
+    goto_neat tree.no_stmts p h = h
+    goto_neat (tree.more_stmts s rest) p h = goto_stmt s p h
+
+    goto_stmt : (s : StmtTree) (p : System) → Neat p → Neat (goto_of_stmt s m t p)
+    goto_stmt (tree.stmt n label w) p h = goto_what w p h
+
+    goto_what : (w : WhatTree) (p : System) → Neat p → Neat (goto_of_what w m t p)
+    goto_what (tree.assign x e) p h = h
+    goto_what (tree.block_if arms other) p h = goto_arms arms p h
+    goto_what (tree.logical_if e s) p h = h
+    goto_what (tree.do_loop l) p h = h
+    goto_what (tree.call x es) p h = h
+    goto_what (tree.goto l) p h = h
+    goto_what tree.continue p h = h
+    goto_what tree.return p h = h
+    goto_what (tree.stop text) p h = h
+    goto_what (tree.print es) p h = h
+    goto_what (tree.read es) p h = h
+
+    goto_arms : (xs : ArmTrees) (p : System) → Neat p → Neat (goto_of_arms xs m t p)
+    goto_arms tree.no_arms p h = h
+    goto_arms (tree.more_arms x rest) p h = goto_arm x p h
+
+    goto_arm : (x : ArmTree) (p : System) → Neat p → Neat (goto_of_arm x m t p)
+    goto_arm (tree.arm e body) p h =
+        let q = if_true m e p in
+        let k = true_neat e p h in
+        if_cases (IsNeat (IsCellOf ok)) (unstructured false body) (throughout false body t q) (before_last body m t q)
+        (λ u. throughout_neat false body q k) (λ u. last_neat body q k)
+
+    last_neat : (ss : StmtTrees) (p : System) → Neat p → Neat (before_last ss m t p)
+    last_neat tree.no_stmts p h = h
+    last_neat (tree.more_stmts s rest) p h =
+        if_cases (IsNeat (IsCellOf ok)) (is_end rest) p (before_last rest m t (after s m t p)) (λ u. h) (λ u. last_neat rest (after s m t p) (after_stmt s p h))
 
     after_other : (x : ElseTree) (p : System) → Neat p → Neat (after_else x m t p)
     after_other tree.no_else p h = h
@@ -159,8 +219,11 @@ module _ (ok : ℕ → Type 0) (m : ScopeTree) (a : Scope ok m) (t : Preconditio
     at_one_arm (tree.arm e body) p h =
         let q = if_true m e p in
         let k = true_neat e p h in
-        if_cases (AllAt (IsNeat (IsCellOf ok))) (unstructured false body) (at_all body m t (throughout false body t q)) (at_each body m t q)
-        (λ e. at_same body (throughout false body t q) (throughout_neat false body q k)) (λ e. at_stmts body q k)
+        let b = while_begins (while_in body) m t q in
+        found_neat (while_in body) (at_all body m t b) (if unstructured false body then at_all body m t (throughout false body t q) else at_each body m t q)
+        (at_same body b (begins_neat (while_in body) q k))
+        (if_cases (AllAt (IsNeat (IsCellOf ok))) (unstructured false body) (at_all body m t (throughout false body t q)) (at_each body m t q)
+        (λ u. at_same body (throughout false body t q) (throughout_neat false body q k)) (λ u. at_stmts body q k))
 
     at_other : (x : ElseTree) (p : System) → Neat p → AllAt (IsNeat (IsCellOf ok)) (at_else x m t p)
     at_other tree.no_else p h = tt

@@ -12,7 +12,7 @@ use Rattle.affine_forms.specs.Forms.{affine_of}
 use Rattle.affine_forms.specs.Conditions.{no_rows, condition_of}
 use Rattle.preconditions.specs.transformer_algebra.declared.transformer.Transformer.{Transformer}
 use Rattle.preconditions.specs.transformer_algebra.Cells.{has}
-use Rattle.preconditions.specs.transformer_algebra.Transformers.{test, identity_transformer, nowhere, followed}
+use Rattle.preconditions.specs.transformer_algebra.Transformers.{test, identity_transformer, nowhere, followed, iterate}
 use Rattle.preconditions.specs.call_translation.Scopes.{ScopeTree}
 use Rattle.preconditions.specs.call_translation.Actuals.{named_cell, one_cell}
 use Rattle.preconditions.specs.transformers.Given.{Callees}
@@ -20,12 +20,13 @@ use Rattle.preconditions.specs.transformers.Jumps.{unstructured, is_end}
 use Rattle.preconditions.specs.transformers.Lists.{followed_by, in_order, in_any_order, list_of}
 use Rattle.preconditions.specs.transformers.Loops.{number_in, loop_parts}
 use Rattle.preconditions.specs.transformers.Simple.{becomes, named_cells}
-use Rattle.preconditions.specs.transformers.Statement.{where_holds, if_does, choice, without_arm, without_arms, stmt_transformer, what_transformer, each_transformer, arm_transformers, arm_transformer, else_transformer, body_transformer, list_transformer, at_stmt, at_parts, at_list, at_arms, at_arm, at_else, at_loop}
+use Rattle.preconditions.specs.transformers.Whiles.{WhileTree, while_in, all_before_last, while_body, while_iteration, while_or}
+use Rattle.preconditions.specs.transformers.Statement.{where_holds, if_does, choice, without_arm, without_arms, stmt_transformer, what_transformer, each_transformer, arm_transformers, arm_transformer, inner_transformers, inner_of_stmt, inner_of_what, inner_of_arms, inner_of_arm, else_transformer, body_transformer, list_transformer, at_stmt, at_parts, at_list, at_arms, at_arm, at_else, at_loop}
 use Rattle.laws_lines.specs.Variables.{IsCellOf}
 use Rattle.laws_lines.specs.Halves.{IsHalfOf}
 use Rattle.laws_lines.proofs.SystemVars.{IsNeat, meet_neat}
 use Rattle.laws_lines.proofs.FormVars.{FormOf, affine_over, condition_over, none_neat}
-use Rattle.laws_lines.proofs.RuleVars.{IsDone, AreDone, none_has, test_done, unchanging_done, nowhere_done, forgotten_done, assign_done, followed_done, one_of_done, cells_ok}
+use Rattle.laws_lines.proofs.RuleVars.{IsDone, AreDone, none_has, test_done, unchanging_done, nowhere_done, forgotten_done, assign_done, followed_done, one_of_done, iterate_done, cells_ok}
 use Rattle.laws_lines.proofs.LoopVars.{IsLoopOf, loop_done}
 use Rattle.laws_lines.proofs.CallVars.{Allows, named_cell_ok, one_cell_ok, SummaryOf, call_done}
 use Rattle.preconditions.proofs.TransformerAlgebra.HasLaws.{has_either}
@@ -58,6 +59,11 @@ any_done ok ts h = record { cells = cells_ok ok ts h; system = none_neat (IsHalf
 
 pub list_done : (ok : ℕ → Type 0) (whole : Bool) (body : StmtTrees) (ts : List Transformer) → AreDone ok ts → IsDone ok (list_of whole body ts)
 list_done ok whole body ts h = if_cases (IsDone ok) (unstructured whole body) (in_any_order ts) (in_order ts) (λ e. any_done ok ts h) (λ e. order_done ok ts h)
+
+before_last_done : (ok : ℕ → Type 0) (ts : List Transformer) → AreDone ok ts → AreDone ok (all_before_last ts)
+before_last_done ok [] h = tt
+before_last_done ok (t ∷ []) h = tt
+before_last_done ok (t ∷ u ∷ ts) h = (h.0, before_last_done ok (u ∷ ts) h.1)
 
 -- ---- statements
 
@@ -97,6 +103,18 @@ module _ (ok : ℕ → Type 0) (m : ScopeTree) (a : Scope ok m) where
         where_done yes t (meet_neat (IsCellOf ok) no_rows (condition_of m.scalars e).yes (none_neat (IsCellOf ok)) (yes_neat e)) d,
         (where_done no identity_transformer (meet_neat (IsCellOf ok) no_rows (condition_of m.scalars e).no (none_neat (IsCellOf ok)) (no_neat e)) (unchanging_done ok), tt),
       )
+
+  -- an iteration of a DO WHILE, from what its statements and its GO TO do
+  pub while_iteration_done : (w : WhileTree) (ts : List Transformer) → AreDone ok ts → IsDone ok (while_iteration m w ts)
+  while_iteration_done w ts h =
+      followed_done ok (test (condition_of m.scalars w.test).yes) (while_body w.body ts) (test_done ok (condition_of m.scalars w.test).yes (yes_neat w.test))
+      (if_cases (IsDone ok) (unstructured false w.body) (in_any_order ts) (in_order (all_before_last ts)) (λ e. any_done ok ts h) (λ e. order_done ok (all_before_last ts) (before_last_done ok ts h)))
+
+  while_done : (o : Option WhileTree) (ts : List Transformer) (t : Transformer) → AreDone ok ts → IsDone ok t → IsDone ok (while_or o m ts t)
+  while_done None ts t h d = d
+  while_done (Some w) ts t h d =
+      followed_done ok (iterate (while_iteration m w ts)) (test (condition_of m.scalars w.test).no) (iterate_done ok (while_iteration m w ts) (while_iteration_done w ts h))
+      (test_done ok (condition_of m.scalars w.test).no (no_neat w.test))
 
   choice_done : (ts : List Transformer) (before : System) (t : Transformer) → AreDone ok ts → IsNeat (IsCellOf ok) before → IsDone ok t → IsDone ok (choice ts before t)
   choice_done ts before t h b d = one_of_done ok (ts ++ where_holds before t ∷ []) (done-append ok ts (where_holds before t ∷ []) h (where_done before t b d, tt))
@@ -141,8 +159,37 @@ module _ (ok : ℕ → Type 0) (m : ScopeTree) (a : Scope ok m) where
 
       arm_done : (x : ArmTree) (before : System) → IsNeat (IsCellOf ok) before → IsDone ok (arm_transformer x m cs before)
       arm_done (tree.arm e body) before b =
-          where_done (meet before (condition_of m.scalars e).yes) (list_of false body (each_transformer body m cs false))
-          (meet_neat (IsCellOf ok) before (condition_of m.scalars e).yes b (yes_neat e)) (list_done ok false body (each_transformer body m cs false) (each_done body false))
+          let ts = inner_transformers body m cs in
+          let t = list_of false body (each_transformer body m cs false) in
+          where_done (meet before (condition_of m.scalars e).yes) (while_or (while_in body) m ts t) (meet_neat (IsCellOf ok) before (condition_of m.scalars e).yes b (yes_neat e))
+          (while_done (while_in body) ts t (inner_done body) (list_done ok false body (each_transformer body m cs false) (each_done body false)))
+
+      inner_done : (ss : StmtTrees) → AreDone ok (inner_transformers ss m cs)
+      inner_done tree.no_stmts = tt
+      inner_done (tree.more_stmts s rest) = inner_stmt s
+
+      inner_stmt : (s : StmtTree) → AreDone ok (inner_of_stmt s m cs)
+      inner_stmt (tree.stmt n label w) = inner_what w
+
+      inner_what : (w : WhatTree) → AreDone ok (inner_of_what w m cs)
+      inner_what (tree.assign x e) = tt
+      inner_what (tree.block_if arms other) = inner_arms arms
+      inner_what (tree.logical_if e s) = tt
+      inner_what (tree.do_loop l) = tt
+      inner_what (tree.call x es) = tt
+      inner_what (tree.goto l) = tt
+      inner_what tree.continue = tt
+      inner_what tree.return = tt
+      inner_what (tree.stop text) = tt
+      inner_what (tree.print es) = tt
+      inner_what (tree.read es) = tt
+
+      inner_arms : (xs : ArmTrees) → AreDone ok (inner_of_arms xs m cs)
+      inner_arms tree.no_arms = tt
+      inner_arms (tree.more_arms x rest) = inner_arm x
+
+      inner_arm : (x : ArmTree) → AreDone ok (inner_of_arm x m cs)
+      inner_arm (tree.arm e body) = each_done body false
 
       else_done : (x : ElseTree) → IsDone ok (else_transformer x m cs)
       else_done tree.no_else = unchanging_done ok

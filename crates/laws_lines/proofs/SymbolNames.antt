@@ -18,7 +18,7 @@ use Rattle.f77_checks.specs.Parameters.{Valued, given_typed, given_const_value, 
 use Rattle.f77_meaning.specs.Modules.{symbol_names}
 use Rattle.storage_layout.specs.Symbols.{valued, symbols_of}
 use Rattle.storage_layout.specs.Table.{Layout, symbols_from}
-use Rattle.laws_programs.proofs.SymbolTables.KeptNames.{Said, with_said, Typed, Shaped, Shared, Parameter, Saved, Initial, Nothing}
+use Rattle.laws_programs.proofs.SymbolTables.KeptNames.{Said, with_said}
 use Rattle.laws_programs.proofs.SymbolTables.Values.{chosen, as_chosen, is_taken, judged}
 use Rattle.laws_programs.proofs.SymbolTables.Answers.{answered_by, lines_in, names_in, layout_in}
 use Rattle.laws_programs.proofs.Storage.ParameterLaws.{same_name}

@@ -10,13 +10,12 @@ use Rattle.affine_systems.specs.Items.{items_from, rows_of}
 use Rattle.affine_systems.specs.Tidy.{tidy_items, tidy}
 use Rattle.affine_systems.specs.Eliminate.{eliminate_item, eliminate}
 use Rattle.affine_systems.specs.Calls.{meet}
-use Rattle.affine_systems.proofs.Basics.{if_cases}
 use Rattle.affine_systems.proofs.AscendLaws.{ascends-renamed}
 use Rattle.affine_systems.proofs.LastLaws.{Has, tidied_has, eliminated_has}
 use Rattle.affine_systems.proofs.LackLaws.{RowsNil}
 use Rattle.hull_projection.specs.declared.projection.Shadow.{Shadow}
 use Rattle.hull_projection.specs.Variables.{in_order}
-use Rattle.hull_projection.specs.Clean.{is_spare, cleaned_behind, clean}
+use Rattle.hull_projection.specs.Clean.{clean}
 use Rattle.hull_projection.specs.Project.{shadow, shadow_after, eliminate_each, project}
 use Rattle.hull_projection.specs.Laws.{IsOneOf}
 use Rattle.hull_projection.proofs.ProjectLaws.{project_nil}

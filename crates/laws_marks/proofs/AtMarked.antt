@@ -35,6 +35,9 @@ use Rattle.f77_ast.specs.declared.marks.Mark.TheVariants.{Parallel}
 use Rattle.loop_marker.specs.Results.{ModuleResults}
 use Rattle.loop_marker.specs.Phases.{phases_of, all_marks}
 use Rattle.loop_marker.specs.dependence_test.Finding.{loop_in}
+use Rattle.loop_marker.specs.privatizer.Functions.{is_function as takes_value, own_functions}
+use Rattle.result_lines.specs.ShownMarks.{shown_numbers}
+use Rattle.laws_lines.specs.Marks.Marked.{functions_in_loop, functions_of}
 use Rattle.laws_programs.specs.Programs.{IsProgram}
 use Rattle.call_graph.specs.CallsIn.{Each}
 use Rattle.laws_analyses.proofs.Modules.{IsIn}
@@ -63,6 +66,10 @@ use Rattle.laws_marks.proofs.Private.{stored_place, name_private}
 use Rattle.laws_marks.specs.Rests.{occurrence_of}
 use Rattle.laws_marks.specs.Loops.{AreOff, IsOutside, MarkedDoHolds, RoutineHolds}
 use Rattle.laws_marks.specs.Directives.{IsMarkOf, AreOfMarks}
+use Rattle.laws_marks.specs.Names.{directive_names, marked_names}
+use Rattle.laws_marks.proofs.Functions.{shown_all, shown_there}
+use Rattle.laws_marks.proofs.Outs.{in_both}
+use Rattle.preconditions.proofs.TransformerAlgebra.Members.{in_left, in_right}
 use Rattle.laws_marks.proofs.Unbroken.{IsUnbroken}
 use Rattle.laws_marks.proofs.Dos.{all_dos}
 use Rattle.laws_marks.proofs.Units.{units, nameless_outside, nameless_local}
@@ -73,6 +80,11 @@ in_map : (f : ℕ → List ℕ) (n : ℕ) (ns : List ℕ) → In n ns → In (f 
 in_map f n [] i = elim i [ ]
 in_map f n (m ∷ ns) here = here
 in_map f n (m ∷ ns) (there i) = there (in_map f n ns i)
+
+map_more : (f : ℕ → List ℕ) (ms ns : List ℕ) → ((n : ℕ) → In n ms → In n ns) → (y : List ℕ) → In y (map f ms) → In y (map f ns)
+map_more f [] ns h y i = elim i [ ]
+map_more f (m ∷ ms) ns h y here = in_map f m ns (h m here)
+map_more f (m ∷ ms) ns h y (there i) = map_more f ms ns (λ n j. h n (there j)) y i
 
 each_in : {T : Type 0} (P : T → Type 0) (xs : List T) (x : T) → In x xs → Each P xs → P x
 each_in {T = T} P [] x j h = elim j [ ]
@@ -148,11 +160,29 @@ module _ (begin : LoopsBegin) (hold : LoopsHold) (copied : NamesAreCopied) (ps :
             each_in (λ (f : ModuleResults). f.known.read.name ≡ k.read.name → ModuleNamesStand (known_of ps sss) g f e) fs q.found q.is_one
             (each_of_all (λ (f : ModuleResults). f.known.read.name ≡ k.read.name → ModuleNamesStand (known_of ps sss) g f e) fs c.names) q.named l is_do' q.privates q.mark
 
-        are : AreNamesOf ns (names K.symbols) l q.privates
-        are = subst (λ (zs : List (List ℕ)). AreNamesOf zs (names K.symbols) l q.privates) (sym q.names) stand.written
+        -- the functions of which each iteration has the result for itself
+        own : functions_of K.read (suc j) ≡ own_functions K.read body
+        own = ap (functions_in_loop K.read) is_do'
 
         places : PlacesStand (known_of ps sss) g K l q.privates at
         places = each_in (PlacesOf e) fs q.found q.is_one c.placed q.named l is_do' q.privates q.mark
+
+        are : AreNamesOf ns (names K.symbols) l q.privates
+        are y i = in_both (λ (z : List ℕ). (v : ℕ) → names K.symbols z ≡ Variable v → In v q.privates ⊎ (names K.symbols (index_name l) ≡ Variable v)) (directive_names K.symbols (shown_numbers K.read (symbol_names K.symbols) q.privates)) (functions_of K.read (suc j)) of_shown of_own y (subst (In y) q.names i)
+          where
+            of_shown : (z : List ℕ) → In z (directive_names K.symbols (shown_numbers K.read (symbol_names K.symbols) q.privates)) → (v : ℕ) → names K.symbols z ≡ Variable v → In v q.privates ⊎ (names K.symbols (index_name l) ≡ Variable v)
+            of_shown z h = stand.written z (map_more (name_at (symbol_names K.symbols)) (shown_numbers K.read (symbol_names K.symbols) q.privates) q.privates (shown_all K.read (symbol_names K.symbols) q.privates) z h)
+
+            of_own : (z : List ℕ) → In z (functions_of K.read (suc j)) → (v : ℕ) → names K.symbols z ≡ Variable v → In v q.privates ⊎ (names K.symbols (index_name l) ≡ Variable v)
+            of_own z h = places.taken z (subst (In z) own h)
+
+        -- the name of one of the variables is among the names, or that of a function of which each iteration has the result for itself
+        in_names : (n : ℕ) → In n q.privates → In (name_at (symbol_names K.symbols) n) ns
+        in_names n i = subst (In (name_at (symbol_names K.symbols) n)) (sym q.names) (go (takes_value K.read (name_at (symbol_names K.symbols) n)) refl)
+          where
+            go : (b : Bool) → takes_value K.read (name_at (symbol_names K.symbols) n) ≡ b → In (name_at (symbol_names K.symbols) n) (marked_names K (suc j) q.privates)
+            go true e = in_right (name_at (symbol_names K.symbols) n) (directive_names K.symbols (shown_numbers K.read (symbol_names K.symbols) q.privates)) (functions_of K.read (suc j)) (subst (In (name_at (symbol_names K.symbols) n)) (sym own) (places.shown n i e))
+            go false e = in_left (name_at (symbol_names K.symbols) n) (directive_names K.symbols (shown_numbers K.read (symbol_names K.symbols) q.privates)) (functions_of K.read (suc j)) (in_map (name_at (symbol_names K.symbols)) n (shown_numbers K.read (symbol_names K.symbols) q.privates) (shown_there K.read (symbol_names K.symbols) q.privates n e i))
 
         at_place : (v : ℕ) → In v q.privates ⊎ (names K.symbols (index_name l) ≡ Variable v) → IsFixed (of k) at v
         at_place v h = let z = places.placed v h in subst (λ (y : Known). IsFixed (of y) at v) same (record { no_dummy = z.0; fixed = z.1 })
@@ -176,8 +206,7 @@ module _ (begin : LoopsBegin) (hold : LoopsHold) (copied : NamesAreCopied) (ps :
             go : (b : Bool) → is_function (places.locals n i).symbol ≡ b → m.private u ≡ true
             go false f =
                 let name = name_at (symbol_names K.symbols) n in
-                let one : In name ns = subst (λ (zs : List (List ℕ)). In name zs) (sym q.names) (in_map (name_at (symbol_names K.symbols)) n q.privates i) in
-                name_private (known_of ps sss) g (scope_of g.untracked K) at (loop_with g (phases_of q.found).known l) ns sc body r w (lock locked w Locked) name n u one
+                name_private (known_of ps sss) g (scope_of g.untracked K) at (loop_with g (phases_of q.found).known l) ns sc body r w (lock locked w Locked) name n u (in_names n i)
                 (ap (λ (f : Names). f name) same_names ∙ name_means K.symbols n p places.distinct f) h
             go true f =
                 let local = subst (λ (y : Known). list_any (λ c. nat_eq c u) (of y).locals ≡ true) same (nameless_local ps sss g x K k_in n p f (places.sole n i) u has) in

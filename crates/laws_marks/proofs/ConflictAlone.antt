@@ -19,7 +19,6 @@ use Rattle.f77_ast.specs.Shared.{OneUnit, group_unit, unit_after, HasUnit, share
 use Rattle.f77_ast.proofs.SharingLaws.{sharing_is_of_units}
 use Rattle.f77_names.specs.Entries.{EntryTree}
 use Rattle.tracked_cells.specs.Equivalences.{item_names, group_names, decl_names, decls_names}
-use Rattle.fx_lists.proofs.Booleans.{or_neither}
 use Rattle.laws_programs.specs.storage_data.declared.offset_node.Home.{Home}
 use Rattle.laws_programs.specs.storage_data.declared.offset_node.Home.TheVariants.{Block, Own}
 use Rattle.laws_programs.specs.storage_data.declared.offset_node.OffsetNode.{OffsetNode}
@@ -40,8 +39,7 @@ use Rattle.laws_programs.proofs.Layouts.SharingLaws.{sharing_has_a_chain, index_
 use Rattle.laws_analyses.proofs.Regions.NamesOnce.{numbered_once}
 use Rattle.laws_marks.proofs.InGrouped.{groups_have}
 use Rattle.laws_marks.proofs.InValued.{parameters_have_values}
-use Rattle.loop_marker.specs.privatizer.Names.{is_equivalenced, has_other_use, is_own_symbol, may_copy}
-use Rattle.loop_marker.specs.privatizer.Functions.{is_function}
+use Rattle.loop_marker.specs.privatizer.Names.{is_equivalenced, is_own_symbol, may_copy}
 use Rattle.laws_analyses.proofs.IntegerLaws.{integers_fit}
 use Rattle.laws_programs.proofs.Tables.{programs_are_linked}
 use Rattle.laws_marks.specs.ConflictClaims.{IsSole}
@@ -266,10 +264,10 @@ alone p ss laid fit (variable.Own n) h = go (symbol_at ss n) refl h
     go : (o : Option SymbolTree) → symbol_at ss n ≡ o → is_own_symbol p.module_read o ≡ true → IsSole ss (variable.Own n)
     go None e q = absurd (true≢false (sym q))
     go (Some s) e q =
-        let r = and_parts (is_local s.place) (not s.saved && not (has_other_use p.module_read s.name)) q in
-        let w = and_parts (not s.saved) (not (has_other_use p.module_read s.name)) r.1 in
+        let r = and_parts (is_local s.place) (not s.saved && not (is_equivalenced p.module_read s.name)) q in
+        let w = and_parts (not s.saved) (not (is_equivalenced p.module_read s.name)) r.1 in
         let l = local_place s.place r.0 in
-        none p ss laid fit n s e l.group l.offset l.lies (or_neither (is_equivalenced p.module_read s.name) (is_function p.module_read s.name) (not-true (has_other_use p.module_read s.name) w.1)).0
+        none p ss laid fit n s e l.group l.offset l.lies (not-true (is_equivalenced p.module_read s.name) w.1)
 
 -- so it is of each module of a program that is read
 pub copies_are_sole : CopiesAreSole

@@ -20,7 +20,7 @@ use Rattle.f77_ast.specs.declared.marks.Private.TheVariants.{Yes}
 use Rattle.in_out_regions.specs.region_sets.declared.region.Access.TheVariants.{In as AtIn}
 use Rattle.in_out_regions.specs.region_sets.declared.region.Region.{Region}
 use Rattle.in_out_regions.specs.region_sets.Claims.{LiesInSet}
-use Rattle.loop_marker.specs.privatizer.Names.{has_other_use, is_own_symbol, may_copy}
+use Rattle.loop_marker.specs.privatizer.Names.{is_equivalenced, is_own_symbol, may_copy}
 use Rattle.loop_marker.specs.privatizer.Uses.{Uses}
 use Rattle.loop_marker.specs.privatizer.Private.{is_carried, is_live, private_by, private_in}
 use Rattle.loop_marker.specs.privatizer.Claims.{IsPrivate, IfPrivate}
@@ -63,8 +63,8 @@ copied t ss n h = go (symbol_at ss n) refl h
     go : (o : Option SymbolTree) → symbol_at ss n ≡ o → is_own_symbol t o ≡ true → Copied ss n
     go None e q = absurd (true≢false (sym q))
     go (Some s) e q =
-        let p = and_parts (is_local s.place) (not s.saved && not (has_other_use t s.name)) q in
-        let r = and_parts (not s.saved) (not (has_other_use t s.name)) p.1 in
+        let p = and_parts (is_local s.place) (not s.saved && not (is_equivalenced t s.name)) q in
+        let r = and_parts (not s.saved) (not (is_equivalenced t s.name)) p.1 in
         record { symbol = s; is_symbol = e; local = p.0; unsaved = not-true s.saved r.0 }
 
 module _ (k : Frame) (locked : Locks) (units : UnitsFit k locked) (sole : AllSole k) (loop : LoopTree) (head : System) (ins : List Region) (it : Iteration) (holds : HoldsAt (scene k.base) head (numbers_of it.start)) (firsts : FirstHolds k ins it.start it.did) (free : IsFree k locked it.did) (t : ModuleTree) (before : System) (outs : List Region) where

@@ -111,6 +111,8 @@ pub mod Reached
 pub mod Own
 pub mod Dead
 pub mod Marks
+pub mod Verdicts
+pub mod Functions
 pub mod Marked
 pub mod Written
 pub mod Named
@@ -121,7 +123,6 @@ pub mod Modules
 pub mod PrivatePrograms
 pub mod MarkedPrograms
 pub mod Directives
-pub mod Verdicts
 pub mod DoEffects
 pub mod Effects
 pub mod Inside

@@ -19,7 +19,9 @@ use Rattle.call_graph.specs.CallsIn.{Each}
 use Rattle.laws_analyses.proofs.Regions.Programs.{distinct_numbers}
 use Rattle.laws_marks.proofs.ConflictWhats.{as_loop, each_found}
 use Rattle.laws_marks.specs.Units.{index_in}
+use Rattle.laws_marks.specs.Verdicts.{SaysParallel}
 use Rattle.laws_marks.proofs.Marks.{Says, mark_says, list_marks, found_at}
+use Rattle.laws_marks.proofs.Verdicts.{says_parallel}
 
 -- what is known of a module where its marks are made
 abbrev pub knowledge : Graph → ModuleResults → Knowledge
@@ -47,10 +49,18 @@ module _ (g : Graph) (f : ModuleResults) (numbered : HasNumbers f.known.read.bod
   pub index_same : (l : LoopTree) → ((knowledge g f).body l).index ≡ index_in (scope_of g.untracked f.known) l
   index_same (tree.loop index first last step body) = refl
 
-  pub says : (n : ℕ) (l : LoopTree) → loop_in n f.known.read.body ≡ Some l → (ns : List ℕ) → value_at f.marks n ≡ Some (Parallel ns) → Says (knowledge g f) n l ns
-  says n l is_do ns v =
+  -- it is a mark of that DO
+  pub is_mark : (n : ℕ) (l : LoopTree) → loop_in n f.known.read.body ≡ Some l → (ns : List ℕ) → value_at f.marks n ≡ Some (Parallel ns) → (label : Option ℕ) × (mark_of (knowledge g f) n label l ≡ Parallel ns)
+  is_mark n l is_do ns v =
       let q = found_at MarkOf n (Parallel ns) f.marks each_mark v in
       let o = q.is_so in
       let same : Some o.loop ≡ Some l = sym o.found ∙ (ap (λ i. loop_in i k.read.body) q.number ∙ is_do) in
       let one : o.loop ≡ l = cc in
-      mark_says (knowledge g f) n o.label l ns (ap (λ z. mark_of (knowledge g f) n o.label z) (sym one) ∙ (ap (λ i. mark_of (knowledge g f) i o.label o.loop) (sym q.number) ∙ (sym o.value ∙ q.value)))
+      (o.label, ap (λ z. mark_of (knowledge g f) n o.label z) (sym one) ∙ (ap (λ i. mark_of (knowledge g f) i o.label o.loop) (sym q.number) ∙ (sym o.value ∙ q.value)))
+
+  pub says : (n : ℕ) (l : LoopTree) → loop_in n f.known.read.body ≡ Some l → (ns : List ℕ) → value_at f.marks n ≡ Some (Parallel ns) → Says (knowledge g f) n l ns
+  says n l is_do ns v = (let q = is_mark n l is_do ns v in mark_says (knowledge g f) n q.0 l ns q.1)
+
+  -- of each variable, and of the functions of which each iteration has the result for itself
+  pub says_all : (n : ℕ) (l : LoopTree) → loop_in n f.known.read.body ≡ Some l → (ns : List ℕ) → value_at f.marks n ≡ Some (Parallel ns) → SaysParallel (knowledge g f) n l ns
+  says_all n l is_do ns v = (let q = is_mark n l is_do ns v in says_parallel (knowledge g f) n q.0 l ns q.1)

@@ -26,8 +26,8 @@ use Rattle.loop_marker.specs.privatizer.Uses.{Uses}
 use Rattle.loop_marker.specs.declared.verdict.Verdict.{Verdict}
 use Rattle.loop_marker.specs.declared.verdict.Verdict.TheVariants.{Free, Copied, Bad}
 use Rattle.loop_marker.specs.Jumps.{may_jump, may_have_io, body_of}
-use Rattle.loop_marker.specs.Marks.{Knowledge, is_in_bounds, index_is_bad, kinds_of, unless_named, copy_answer, with_own, by_kinds, verdict_of, by_verdict, marked, by_variables, has_step, by_index, by_step, by_io, mark_of, the_marks}
-use Rattle.loop_marker.specs.Variables.{indexes_in, written_in, is_of_some}
+use Rattle.loop_marker.specs.Marks.{Knowledge, is_in_bounds, is_other_result, index_is_bad, kinds_of, unless_named, copy_answer, with_own, by_kinds, verdict_of, by_verdict, marked, by_variables, has_step, by_index, by_step, by_io, mark_of, the_marks}
+use Rattle.loop_marker.specs.Variables.{inner_in, written_in, is_of_some}
 use Rattle.f77_ast.specs.Variables.{union, same_variable}
 use Rattle.call_graph.specs.CallsIn.{Each}
 use Rattle.laws_analyses.proofs.Statements.Placing.{each_parts}
@@ -52,7 +52,7 @@ unnamed_yes named Carried e = cc
 unnamed_yes named Live e = cc
 
 copied_private : (k : Knowledge) (b : LoopBody) (u : Uses) (l : LoopTree) (inner : List Named) (v : Named) → verdict_of k b u l inner v ≡ Copied → private_in k.tree k.symbols u v ≡ Yes
-copied_private k b u l inner v e = unnamed_yes (is_in_bounds k.symbols l v) (private_in k.tree k.symbols u v) (copied_yes (kinds_of k.symbols b inner v) (copy_answer k u l v) (go (same_variable v (Own b.index)) e))
+copied_private k b u l inner v e = unnamed_yes (is_in_bounds k.symbols l v || is_other_result k.tree k.symbols l v) (private_in k.tree k.symbols u v) (copied_yes (kinds_of k.symbols b inner v) (copy_answer k u l v) (go (same_variable v (Own b.index)) e))
   where
     go : (c : Bool) → (if c then Free else by_kinds (kinds_of k.symbols b inner v) (copy_answer k u l v)) ≡ Copied → by_kinds (kinds_of k.symbols b inner v) (copy_answer k u l v) ≡ Copied
     go true q = cc
@@ -99,7 +99,7 @@ pub mark_says : (k : Knowledge) (n : ℕ) (label : Option ℕ) (l : LoopTree) (n
 mark_says k n label l ns e =
     let b = k.body l in
     let u = k.uses n l in
-    let inner = indexes_in k.names (body_of l) in
+    let inner = inner_in k.names k.tree l in
     let a = (unless (may_jump k.tree.body k.effects label l) _ (by_io k n l) ns e).1 in
     let c = (unless (may_have_io k.effects (body_of l)) _ (by_step k b u l inner) ns a).1 in
     let d = only_if (has_step b) _ (by_index k b u l inner) ns c in

@@ -1,11 +1,13 @@
 -- Where a DO is marked, what has the units in the places of the names of its directive.
 use Rattle.std.proofs.Common.{◌≡◌, ◌⊎◌, inl, inr, ⊎_elim, ℕ, ℤ, zero, suc, ◌||◌, nat_eq, Bool, true, false, List, [], ◌∷◌, Some, refl, sym, ap, ◌∙◌, subst, true≢false}
+use Rattle.std.specs.Prelude.{unwrap_or}
 use Rattle.std.proofs.lemmas.Bool.{eqb-true}
 use Rattle.f77_ast.specs.Trees.{LoopTree}
 use Rattle.f77_ast.specs.Trees as tree
 use Rattle.f77_ast.specs.Places.{Meant, Constant, Variable, Function, Names, Place, Places}
 use Rattle.f77_ast.specs.Calls.{Dummy, in_place}
 use Rattle.f77_ast.specs.StatementNumbers.{HasNumbers}
+use Rattle.f77_ast.specs.Symbols.{number_from}
 use Rattle.f77_ast.specs.declared.variable.Variable.TheVariants.{Own}
 use Rattle.affine_systems.specs.declared.row.System.{System}
 use Rattle.call_graph.specs.declared.graph.Graph.{Graph}
@@ -38,14 +40,17 @@ use Rattle.laws_marks.specs.ConflictClaims.{loop_with}
 use Rattle.laws_interleavings.specs.Typed.{IsNoDummy}
 use Rattle.laws_marks.specs.MarkedFit.{IsCopied}
 use Rattle.laws_marks.specs.Dead.{index_name}
-use Rattle.laws_marks.specs.Units.{IsPassing, UnitsStand, ModuleUnitsStand}
+use Rattle.laws_marks.specs.Units.{index_in, IsPassing, UnitsStand, ModuleUnitsStand}
+use Rattle.laws_marks.specs.Verdicts.{SaysParallel}
 use Rattle.laws_marks.specs.Named.{AreNamesOf, IsOfIndex, IsOfOne, NamesStand, PlacesStand}
 use Rattle.laws_marks.proofs.Dead.{copy_of}
 use Rattle.laws_marks.proofs.Elements.{passing_stored}
-use Rattle.laws_marks.proofs.Marked.{knowledge, index_same, says}
+use Rattle.laws_marks.proofs.Functions.{number_means, own_there}
+use Rattle.laws_marks.proofs.Marked.{knowledge, index_same, says, says_all}
 use Rattle.laws_marks.proofs.Marks.{Says}
 use Rattle.laws_marks.proofs.Own.{TablesTell, passing}
 use Rattle.laws_marks.proofs.Written.{written_names}
+use Rattle.laws_analyses.proofs.NameLaws.{name_number}
 use Rattle.fx_lists.proofs.Options.{some_same}
 
 -- ---- dummies
@@ -89,6 +94,9 @@ some_name w at (y ∷ ys) u h = go (unit_of (w y) at u) refl h (λ q. some_name 
 head_same : (ps : List (At System)) (m : ScopeTree) (t : ℕ → Transformer) (rs : ℕ → List Region) (l : LoopTree) → head_in ps l ≡ (body_of l m t ps rs).head
 head_same ps m t rs (tree.loop index first last step body) = refl
 
+index_number : (m : ScopeTree) (l : LoopTree) → index_in m l ≡ unwrap_or (number_from 1 m.names (index_name l)) 0
+index_number m (tree.loop index first last step body) = refl
+
 -- ---- a DO
 
 module _ (ks : List Known) (g : Graph) (f : ModuleResults) (numbered : HasNumbers f.known.read.body) (is : f.marks ≡ marks_found g.untracked (phases_of f) f.effects) (tell : TablesTell ks g f.known) (x : Execution) (e : ModuleUnitsStand ks g (phases_of f).known x)
@@ -104,6 +112,9 @@ module _ (ks : List Known) (g : Graph) (f : ModuleResults) (numbered : HasNumber
 
   mark : Says (knowledge g f) x.spot.statement l ns
   mark = says g f numbered is x.spot.statement l is_do ns v
+
+  all : SaysParallel (knowledge g f) x.spot.statement l ns
+  all = says_all g f numbered is x.spot.statement l is_do ns v
 
   may : (n : ℕ) → In n ns → may_copy k.read k.symbols (Own n) ≡ true
   may n i = copy_of (may_copy k.read k.symbols (Own n)) (is_carried ((knowledge g f).uses x.spot.statement l) (Own n)) (is_live ((knowledge g f).uses x.spot.statement l) (Own n)) (mark.names n i)
@@ -151,6 +162,8 @@ module _ (ks : List Known) (g : Graph) (f : ModuleResults) (numbered : HasNumber
     locals = λ n i. passing k.read k.symbols n (may n i);
     sole = λ n i. tell.sole (Own n) (may n i);
     distinct = tell.distinct;
+    taken = λ y i w e. ⊎_elim inl (λ q. inr (number_means k.symbols y (index_name l) w e (q ∙ (index_same g f numbered is l ∙ index_number m l)))) (all.taken y i w (name_number k.symbols y w e));
+    shown = λ n i e. (let p = passing k.read k.symbols n (may n i) in own_there k.read l k.symbols n p.symbol p.is_symbol (all.others n i) e);
     placed = λ w h. at_place w (⊎_elim (λ i. passing k.read k.symbols w (may w i)) (of_index w) h);
   }
     where

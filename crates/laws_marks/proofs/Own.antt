@@ -33,7 +33,7 @@ use Rattle.in_out_regions.specs.region_sets.Lists.{or_none, set_at}
 use Rattle.loop_marker.specs.module_phases.OutPhases.{ModuleOuts}
 use Rattle.loop_marker.specs.module_phases.ScalarPhases.{scope_of}
 use Rattle.loop_marker.specs.dependence_test.Finding.{loop_in}
-use Rattle.loop_marker.specs.privatizer.Names.{has_other_use, is_own_symbol, may_copy}
+use Rattle.loop_marker.specs.privatizer.Names.{is_equivalenced, is_own_symbol, may_copy}
 use Rattle.laws_analyses.specs.Calls.Parts.{NoDummy}
 use Rattle.laws_analyses.specs.Regions.Claims.{elements_of, as_region, before_if, regions_in, listed}
 use Rattle.laws_analyses.specs.Regions.Settings.{is_stored, elements_if, is_told, elements_with}
@@ -54,8 +54,8 @@ use Rattle.fx_lists.proofs.Booleans.{or_neither}
 passing_symbol : (t : ModuleTree) (ss : List SymbolTree) (n : ℕ) (o : Option SymbolTree) → symbol_at ss n ≡ o → is_own_symbol t o ≡ true → IsPassing ss n
 passing_symbol t ss n None e q = absurd (true≢false (sym q))
 passing_symbol t ss n (Some s) e q =
-    let p = and_parts (is_local s.place) (not s.saved && not (has_other_use t s.name)) q in
-    let r = and_parts (not s.saved) (not (has_other_use t s.name)) p.1 in
+    let p = and_parts (is_local s.place) (not s.saved && not (is_equivalenced t s.name)) q in
+    let r = and_parts (not s.saved) (not (is_equivalenced t s.name)) p.1 in
     record { symbol = s; is_symbol = e; local = p.0; unsaved = not-true s.saved r.0 }
 
 -- it is a local that is not saved

@@ -9,6 +9,7 @@ use Rattle.std.proofs.lemmas.Bool.{or_parts, not-false}
 use Rattle.affine_systems.specs.declared.row.System.{System}
 use Rattle.f77_ast.specs.Trees.{StmtTree, WhatTree, ArmTree, ArmTrees, ElseTree, LoopTree, StmtTrees}
 use Rattle.f77_ast.specs.Trees as tree
+use Rattle.f77_ast.specs.DeclTrees.{ModuleTree}
 use Rattle.f77_ast.specs.Shapes.{walk_stmt, walk_what, walk_body, walk_arms, walk_arm, walk_else, walk_list}
 use Rattle.f77_ast.specs.Symbols.{SymbolTree, number_from}
 use Rattle.f77_ast.specs.declared.variable.Variable.{Variable as Named}
@@ -27,6 +28,7 @@ use Rattle.in_out_regions.specs.region_sets.declared.region.Access.TheVariants.{
 use Rattle.in_out_regions.specs.region_sets.declared.region.Region.{Region}
 use Rattle.loop_marker.specs.dependence_test.declared.body.LoopBody.{LoopBody}
 use Rattle.loop_marker.specs.dependence_test.Conflicts.{kept_system}
+use Rattle.loop_marker.specs.privatizer.Functions.{own_functions}
 use Rattle.loop_marker.specs.privatizer.Names.{may_copy}
 use Rattle.loop_marker.specs.privatizer.Private.{is_carried, is_live, private_by, private_in}
 use Rattle.loop_marker.specs.privatizer.Uses.{Uses}
@@ -34,12 +36,14 @@ use Rattle.loop_marker.specs.out_regions.Leaving.{leaves}
 use Rattle.loop_marker.specs.declared.verdict.Verdict.{Verdict}
 use Rattle.loop_marker.specs.declared.verdict.Verdict.TheVariants.{Free, Copied, Bad}
 use Rattle.loop_marker.specs.Jumps.{is_jumped_to, may_stop, may_jump, may_have_io, body_of}
-use Rattle.loop_marker.specs.Marks.{Knowledge, is_in_bounds, index_is_bad, with_kind, keeps, kept_kinds, or_of_index, kinds_of, unless_named, copy_answer, with_own, by_answer, by_kinds, verdict_of, by_verdict, marked, by_variables, has_step, by_index, by_step, by_io, mark_of}
-use Rattle.loop_marker.specs.Variables.{own_variable, index_of, the_indexes, in_order_with, indexes_in, is_write, written_in, is_among, is_of_some}
+use Rattle.loop_marker.specs.Marks.{Knowledge, is_in_bounds, is_other_result, index_is_bad, with_kind, keeps, kept_kinds, or_of_index, kinds_of, unless_named, copy_answer, with_own, by_answer, by_kinds, verdict_of, by_verdict, marked, by_variables, has_step, by_index, by_step, by_io, mark_of}
+use Rattle.loop_marker.specs.Variables.{own_variable, index_of, the_indexes, in_order_with, indexes_in, with_names, inner_in, is_write, written_in, is_among, is_of_some}
 use Rattle.call_graph.specs.CallsIn.{Each}
 use Rattle.laws_marks.specs.Verdicts.{IsOneOf, IsCleared, SaysParallel}
 use Rattle.laws_marks.proofs.Dead.{copy_of as yes_copy}
-use Rattle.laws_marks.proofs.Marks.{copied_yes, unnamed_yes, serial_no, unless, only_if}
+use Rattle.laws_marks.proofs.Marks.{copied_yes, unnamed_yes, names_copied, serial_no, unless, only_if}
+use Rattle.f77_ast.proofs.SameLaws.{same_itself}
+use Rattle.fx_lists.proofs.Booleans.{or_neither, or_there}
 use Rattle.fx_lists.proofs.Orders.{at_equal, same_numbers}
 use Rattle.preconditions.proofs.TransformerAlgebra.Members.{in_left, in_right}
 use Rattle.call_graph.proofs.EachLaws.{each_joined}
@@ -108,6 +112,24 @@ merged_symbols v s others h (w ∷ ws) t = go (variable_cmp v w) (merged_symbols
     go Equal ih = (s, h ws t.1)
     go Greater ih = (t.0, ih)
 
+-- the first list is in the union
+first_kept : (x v : Named) (vs rest : List Named) → (In x vs → In x rest) → In x (v ∷ vs) → In x (v ∷ rest)
+first_kept x v vs rest h here = here
+first_kept x v vs rest h (there i) = there (h i)
+
+merged_left : (x v : Named) (vs : List Named) (others : List Named → List Named) → ((zs : List Named) → In x vs → In x (others zs)) → (ws : List Named) → In x (v ∷ vs) → In x (merged v others ws)
+merged_left x v vs others h [] i = first_kept x v vs (others []) (h []) i
+merged_left x v vs others h (w ∷ ws) i = go (variable_cmp v w) (merged_left x v vs others h ws i)
+  where
+    go : (o : Ordering) → In x (merged v others ws) → In x (match_ordering o (v ∷ others (w ∷ ws)) (v ∷ others ws) (w ∷ merged v others ws))
+    go Less ih = first_kept x v vs (others (w ∷ ws)) (h (w ∷ ws)) i
+    go Equal ih = first_kept x v vs (others ws) (h ws) i
+    go Greater ih = there ih
+
+in_first : (x : Named) (vs ws : List Named) → In x vs → In x (union vs ws)
+in_first x [] ws i = elim i [ ]
+in_first x (v ∷ vs) ws i = merged_left x v vs (union vs) (λ zs j. in_first x vs zs j) ws i
+
 union_symbols : (vs ws : List Named) → Each IsSymbol vs → Each IsSymbol ws → Each IsSymbol (union vs ws)
 union_symbols [] ws s t = t
 union_symbols (v ∷ vs) ws s t = merged_symbols v s.0 (union vs) (λ zs z. union_symbols vs zs s.1 z) ws t
@@ -158,6 +180,38 @@ ordered_symbols so_far (v ∷ vs) s t = ordered_symbols (union so_far (v ∷ [])
 indexes_symbols : (names : List (List ℕ)) (ss : StmtTrees) → Each IsSymbol (indexes_in names ss)
 indexes_symbols names ss = ordered_symbols [] (walk_list (the_indexes names) ss) tt (list_symbols names ss)
 
+-- ---- the results of functions
+
+names_symbols : (names : List (List ℕ)) (so_far : List Named) (xs : List (List ℕ)) → Each IsSymbol so_far → Each IsSymbol (with_names names so_far xs)
+names_symbols names so_far [] s = s
+names_symbols names so_far (x ∷ xs) s =
+    let own = own_variable (number_from 1 names x) in
+    names_symbols names (union so_far own) xs (union_symbols so_far own s (own_symbol (number_from 1 names x)))
+
+names_stay : (names : List (List ℕ)) (v : Named) (so_far : List Named) (xs : List (List ℕ)) → In v so_far → In v (with_names names so_far xs)
+names_stay names v so_far [] i = i
+names_stay names v so_far (x ∷ xs) i = (let own = own_variable (number_from 1 names x) in names_stay names v (union so_far own) xs (in_first v so_far own i))
+
+name_there : (names : List (List ℕ)) (n : ℕ) (so_far : List Named) (xs : List (List ℕ)) → Each IsSymbol so_far → (y : List ℕ) → In y xs → number_from 1 names y ≡ Some n → In (Own n) (with_names names so_far xs)
+name_there names n so_far [] s y i e = elim i [ ]
+name_there names n so_far (x ∷ xs) s y here e =
+    let own = own_variable (number_from 1 names x) in
+    names_stay names (Own n) (union so_far own) xs (in_union (Own n) so_far own s (subst (λ (o : Option ℕ). In (Own n) (own_variable o)) (sym e) here))
+name_there names n so_far (x ∷ xs) s y (there i) e =
+    let own = own_variable (number_from 1 names x) in
+    name_there names n (union so_far own) xs (union_symbols so_far own s (own_symbol (number_from 1 names x))) y i e
+
+inner_symbols : (names : List (List ℕ)) (m : ModuleTree) (l : LoopTree) → Each IsSymbol (inner_in names m l)
+inner_symbols names m l = names_symbols names (indexes_in names (body_of l)) (own_functions m (body_of l)) (indexes_symbols names (body_of l))
+
+function_inner : (names : List (List ℕ)) (m : ModuleTree) (l : LoopTree) (y : List ℕ) → In y (own_functions m (body_of l)) → (n : ℕ) → number_from 1 names y ≡ Some n → In (Own n) (inner_in names m l)
+function_inner names m l y i n e = name_there names n (indexes_in names (body_of l)) (own_functions m (body_of l)) (indexes_symbols names (body_of l)) y i e
+
+is_there : (v : Named) (vs : List Named) → In v vs → is_among vs v ≡ true
+is_there v [] i = elim i [ ]
+is_there v (w ∷ ws) here = ap (λ b. b || is_among ws v) (same_itself v)
+is_there v (w ∷ ws) (there i) = or_there (same_variable v w) (is_among ws v) (is_there v ws i)
+
 -- ---- what is written
 
 write_kind : (a : Access) → a ≡ Write → is_write a ≡ true
@@ -185,6 +239,20 @@ none_of_index : (inner : Bool) (ks : List Kinds) → or_of_index inner ks ≡ []
 none_of_index inner [] e = refl
 none_of_index inner (k ∷ ks) e = e
 
+never_none : (ks : List Kinds) → or_of_index true ks ≡ [] → ⊥
+never_none [] e = cc
+never_none (k ∷ ks) e = cc
+
+unnamed_no : (named : Bool) (p : Private) → unless_named named p ≡ Yes → named ≡ false
+unnamed_no false p e = refl
+unnamed_no true Yes e = cc
+unnamed_no true Name e = cc
+unnamed_no true Carried e = cc
+unnamed_no true Live e = cc
+
+own_number : (n m : ℕ) → Own n ≡ Own m → n ≡ m
+own_number n m e = cc
+
 with_none : (kept : Bool) (k : Kinds) (ks : List Kinds) → with_kind kept k ks ≡ [] → (kept ≡ false) × (ks ≡ [])
 with_none true k ks e = cc
 with_none false k ks e = (refl, e)
@@ -211,12 +279,29 @@ none_kept ss b v e kinds = go kinds
     go WriteWrite = none_some (kept_system ss b v WriteWrite) third
 
 module _ (k : Knowledge) (b : LoopBody) (u : Uses) (l : LoopTree) (inner : List Named) where
-  copied_private : (v : Named) → verdict_of k b u l inner v ≡ Copied → private_in k.tree k.symbols u v ≡ Yes
-  copied_private v e = unnamed_yes (is_in_bounds k.symbols l v) (private_in k.tree k.symbols u v) (copied_yes (kinds_of k.symbols b inner v) (copy_answer k u l v) (go (same_variable v (Own b.index)) e))
+  copied_answer : (v : Named) → verdict_of k b u l inner v ≡ Copied → copy_answer k u l v ≡ Yes
+  copied_answer v e = copied_yes (kinds_of k.symbols b inner v) (copy_answer k u l v) (go (same_variable v (Own b.index)) e)
     where
       go : (c : Bool) → (if c then Free else by_kinds (kinds_of k.symbols b inner v) (copy_answer k u l v)) ≡ Copied → by_kinds (kinds_of k.symbols b inner v) (copy_answer k u l v) ≡ Copied
       go true q = cc
       go false q = q
+
+  copied_private : (v : Named) → verdict_of k b u l inner v ≡ Copied → private_in k.tree k.symbols u v ≡ Yes
+  copied_private v e = unnamed_yes (is_in_bounds k.symbols l v || is_other_result k.tree k.symbols l v) (private_in k.tree k.symbols u v) (copied_answer v e)
+
+  -- no function of which the module takes a value, but not the body
+  copied_other : (v : Named) → verdict_of k b u l inner v ≡ Copied → is_other_result k.tree k.symbols l v ≡ false
+  copied_other v e = (or_neither (is_in_bounds k.symbols l v) (is_other_result k.tree k.symbols l v) (unnamed_no (is_in_bounds k.symbols l v || is_other_result k.tree k.symbols l v) (private_in k.tree k.symbols u v) (copied_answer v e))).1
+
+  -- a symbol of which each iteration has its own is free only as the variable of the DO
+  free_index : (n : ℕ) → In (Own n) inner → verdict_of k b u l inner (Own n) ≡ Free → n ≡ b.index
+  free_index n i e = go (same_variable (Own n) (Own b.index)) refl e
+    where
+      go : (c : Bool) → same_variable (Own n) (Own b.index) ≡ c → (if c then Free else by_kinds (kinds_of k.symbols b inner (Own n)) (copy_answer k u l (Own n))) ≡ Free → n ≡ b.index
+      go true w q = own_number n b.index (same_own b.index (Own n) w)
+      go false w q =
+          absurd (never_none (kept_kinds k.symbols b (Own n))
+          (subst (λ c. or_of_index c (kept_kinds k.symbols b (Own n)) ≡ []) (is_there (Own n) inner i) (free_none (kinds_of k.symbols b inner (Own n)) (copy_answer k u l (Own n)) q)))
 
   free_so : (ns : List ℕ) (v : Named) → verdict_of k b u l inner v ≡ Free → IsCleared k.tree k.symbols b ns v
   free_so ns v e = go (same_variable v (Own b.index)) refl e
@@ -286,7 +371,7 @@ pub says_parallel : (k : Knowledge) (n : ℕ) (label : Option ℕ) (l : LoopTree
 says_parallel k n label l ns e =
     let b = k.body l in
     let u = k.uses n l in
-    let inner = indexes_in k.names (body_of l) in
+    let inner = inner_in k.names k.tree l in
     let a = unless (may_jump k.tree.body k.effects label l) _ (by_io k n l) ns e in
     let jump = or_parts (is_jumped_to k.tree.body label) (leaves false (body_of l) || may_stop k.effects (body_of l)) a.0 in
     let leave = or_parts (leaves false (body_of l)) (may_stop k.effects (body_of l)) jump.1 in
@@ -299,9 +384,18 @@ says_parallel k n label l ns e =
       no_stop = leave.1;
       no_io = c.0;
       index = not-false (may_copy k.tree k.symbols (Own b.index)) o.0;
-      verdicts = λ r j w. so r.variable (said (verdict_of k b u l inner) (union inner (written_in b.regions)) [] ns i.1 r.variable (in_union r.variable inner (written_in b.regions) (indexes_symbols k.names (body_of l)) (in_written b.regions r j w)));
+      verdicts = λ r j w. so r.variable (said (verdict_of k b u l inner) (union inner (written_in b.regions)) [] ns i.1 r.variable (in_union r.variable inner (written_in b.regions) (inner_symbols k.names k.tree l) (in_written b.regions r j w)));
+      taken = λ y j v q. (let own = function_inner k.names k.tree l y j v q in of_own v own (said (verdict_of k b u l inner) (union inner (written_in b.regions)) [] ns i.1 (Own v) (in_first (Own v) inner (written_in b.regions) own)));
+      others = names_copied (verdict_of k b u l inner) (λ v. is_other_result k.tree k.symbols l (Own v) ≡ false) (λ v q. copied_other k b u l inner (Own v) q) (union inner (written_in b.regions)) [] ns none i.1;
     }
   where
-    so : (v : Named) → Said (verdict_of k (k.body l) (k.uses n l) l (indexes_in k.names (body_of l))) ns v → IsCleared k.tree k.symbols (k.body l) ns v
-    so v (inl q) = free_so k (k.body l) (k.uses n l) l (indexes_in k.names (body_of l)) ns v q
-    so v (inr q) = inr (inr (one_of k (k.uses n l) ns v (copied_private k (k.body l) (k.uses n l) l (indexes_in k.names (body_of l)) v q.0) q.1))
+    so : (v : Named) → Said (verdict_of k (k.body l) (k.uses n l) l (inner_in k.names k.tree l)) ns v → IsCleared k.tree k.symbols (k.body l) ns v
+    so v (inl q) = free_so k (k.body l) (k.uses n l) l (inner_in k.names k.tree l) ns v q
+    so v (inr q) = inr (inr (one_of k (k.uses n l) ns v (copied_private k (k.body l) (k.uses n l) l (inner_in k.names k.tree l) v q.0) q.1))
+
+    of_own : (v : ℕ) → In (Own v) (inner_in k.names k.tree l) → Said (verdict_of k (k.body l) (k.uses n l) l (inner_in k.names k.tree l)) ns (Own v) → In v ns ⊎ (v ≡ (k.body l).index)
+    of_own v j (inl q) = inr (free_index k (k.body l) (k.uses n l) l (inner_in k.names k.tree l) v j q)
+    of_own v j (inr q) = inl q.1
+
+    none : (v : ℕ) → In v [] → is_other_result k.tree k.symbols l (Own v) ≡ false
+    none v j = elim j [ ]

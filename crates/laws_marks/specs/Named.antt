@@ -20,6 +20,8 @@ use Rattle.preconditions.specs.transformer_algebra.Laws.{In}
 use Rattle.preconditions.specs.call_translation.Scopes.{ScopeTree}
 use Rattle.preconditions.specs.transformers.Lists.{value_at}
 use Rattle.f77_ast.specs.declared.marks.Mark.TheVariants.{Parallel}
+use Rattle.loop_marker.specs.privatizer.Functions.{is_function, own_functions}
+use Rattle.loop_marker.specs.Jumps.{body_of}
 use Rattle.loop_marker.specs.Results.{ModuleResults}
 use Rattle.loop_marker.specs.Phases.{phases_of}
 use Rattle.loop_marker.specs.module_phases.ScalarPhases.{scope_of}
@@ -68,11 +70,14 @@ ModuleNamesStand ks g f x =
     (l : LoopTree) → loop_in x.spot.statement k.read.body ≡ Some l →
     (ns : List ℕ) → value_at f.marks x.spot.statement ≡ Some (Parallel ns) → NamesStand ks g (scope_of g.untracked k) (names k.symbols) (loop_with g (phases_of f).known l) l ns x.places
 
--- of such a DO in a module: these variables are locals that are not saved, which no other overlaps by the tables; they, and the variable of the DO, are no dummies, and lie at their own places
+-- of such a DO in a module: these variables are locals that are not saved, which no other overlaps by the tables; they, and the variable of the DO, are no dummies, and lie at their own places.
+-- The names of the functions of which each iteration has the result for itself stand for some of them, and they have no name of another function of which the module takes a value
 pub record PlacesStand (ks : List Known) (g : Graph) (k : Known) (l : LoopTree) (ns : List ℕ) (at : Places) : Type 0 where
   pub locals : (n : ℕ) → In n ns → IsPassing k.symbols n
   pub sole : (n : ℕ) → In n ns → IsSole k.symbols (Own n)
   pub distinct : IsDistinct bytes_eq (symbol_names k.symbols)
+  pub taken : AreNamesOf (own_functions k.read (body_of l)) (names k.symbols) l ns
+  pub shown : (n : ℕ) → In n ns → is_function k.read (name_at (symbol_names k.symbols) n) ≡ true → In (name_at (symbol_names k.symbols) n) (own_functions k.read (body_of l))
   pub placed : (v : ℕ) → In v ns ⊎ (names k.symbols (index_name l) ≡ Variable v) → IsNoDummy (dummies_from 1 k.symbols) v × (at v ≡ fixed (numbering ks g) k v)
 
 abbrev pub ModulePlacesStand : List Known → Graph → ModuleResults → Execution → Type 0

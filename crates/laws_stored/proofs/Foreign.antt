@@ -20,7 +20,7 @@ use Rattle.std.specs.declared.cmp.Ordering.{Ordering}
 use Rattle.std.specs.declared.cmp.Ordering.TheVariants.{Less, Equal, Greater}
 use Rattle.std.specs.Ordering.{match_ordering}
 use Rattle.preconditions.specs.transformer_algebra.Units.{unit_cmp, with_unit, with_units, joined_units}
-use Rattle.preconditions.specs.transformer_algebra.Transformers.{test, identity_transformer, nowhere, followed, units_from, one_of}
+use Rattle.preconditions.specs.transformer_algebra.Transformers.{test, identity_transformer, nowhere, followed, iterate, units_from, one_of}
 use Rattle.preconditions.specs.transformer_algebra.Loops.{next}
 use Rattle.preconditions.specs.call_translation.Scopes.{ScopeTree}
 use Rattle.preconditions.specs.call_translation.Actuals.{named_cell}
@@ -32,7 +32,8 @@ use Rattle.preconditions.specs.transformers.Jumps.{unstructured, is_end}
 use Rattle.preconditions.specs.transformers.Lists.{followed_by, in_order, in_any_order, list_of}
 use Rattle.preconditions.specs.transformers.Loops.{loop_parts}
 use Rattle.preconditions.specs.transformers.Simple.{becomes}
-use Rattle.preconditions.specs.transformers.Statement.{where_holds, without_arm, without_arms, stmt_transformer, what_transformer, each_transformer, arm_transformers, arm_transformer, else_transformer, body_transformer, list_transformer, at_stmt, at_parts, at_list, at_arms, at_arm, at_else, at_loop}
+use Rattle.preconditions.specs.transformers.Whiles.{WhileTree, while_in, all_before_last, while_body, while_iteration, while_or}
+use Rattle.preconditions.specs.transformers.Statement.{where_holds, without_arm, without_arms, stmt_transformer, what_transformer, each_transformer, arm_transformers, arm_transformer, inner_transformers, inner_of_stmt, inner_of_what, inner_of_arms, inner_of_arm, else_transformer, body_transformer, list_transformer, at_stmt, at_parts, at_list, at_arms, at_arm, at_else, at_loop}
 use Rattle.base_json.specs.Scopes.{is_block}
 use Rattle.base_values.specs.Naming.{Each}
 use Rattle.laws_stored.proofs.Symbols.{PlaceNamed, SymbolsNamed, named_at}
@@ -137,6 +138,20 @@ order_named (t ∷ ts) h = followed_all t ts h.0 h.1
 list_named : (whole : Bool) (body : StmtTrees) (ts : List Transformer) → AreForeign ts → IsForeign (list_of whole body ts)
 list_named whole body ts h = if_cases IsForeign (unstructured whole body) (in_any_order ts) (in_order ts) (λ e. from_named [] ts tt h) (λ e. order_named ts h)
 
+before_last_named : (ts : List Transformer) → AreForeign ts → AreForeign (all_before_last ts)
+before_last_named [] h = tt
+before_last_named (t ∷ []) h = tt
+before_last_named (t ∷ u ∷ ts) h = (h.0, before_last_named (u ∷ ts) h.1)
+
+while_named : (m : ScopeTree) (o : Option WhileTree) (ts : List Transformer) (t : Transformer) → AreForeign ts → IsForeign t → IsForeign (while_or o m ts t)
+while_named m None ts t h k = k
+while_named m (Some w) ts t h k =
+    let b = while_body w.body ts in
+    let i = while_iteration m w ts in
+    let named = if_cases IsForeign (unstructured false w.body) (in_any_order ts) (in_order (all_before_last ts))
+    (λ e. from_named [] ts tt h) (λ e. order_named (all_before_last ts) (before_last_named ts h)) in
+    followed_named (iterate i) (test (condition_of m.scalars w.test).no) (followed_named (test (condition_of m.scalars w.test).yes) b tt named) tt
+
 becomes_named : (o : Option ℕ) (f : Option Affine) → IsForeign (becomes o f)
 becomes_named None f = tt
 becomes_named (Some c) f = tt
@@ -181,8 +196,37 @@ module _ (m : ScopeTree) (cs : Callees) (named : CalleesForeign cs) where
 
     arm_named : (x : ArmTree) (before : System) → IsForeign (arm_transformer x m cs before)
     arm_named (tree.arm e body) before =
+        let ts = inner_transformers body m cs in
         let t = list_of false body (each_transformer body m cs false) in
-        followed_named (test (meet before (condition_of m.scalars e).yes)) t tt (list_named false body (each_transformer body m cs false) (each_named body false))
+        followed_named (test (meet before (condition_of m.scalars e).yes)) (while_or (while_in body) m ts t) tt
+        (while_named m (while_in body) ts t (inner_named body) (list_named false body (each_transformer body m cs false) (each_named body false)))
+
+    inner_named : (ss : StmtTrees) → AreForeign (inner_transformers ss m cs)
+    inner_named tree.no_stmts = tt
+    inner_named (tree.more_stmts s rest) = inner_stmt s
+
+    inner_stmt : (s : StmtTree) → AreForeign (inner_of_stmt s m cs)
+    inner_stmt (tree.stmt n label w) = inner_what w
+
+    inner_what : (w : WhatTree) → AreForeign (inner_of_what w m cs)
+    inner_what (tree.assign x e) = tt
+    inner_what (tree.block_if arms other) = inner_arms arms
+    inner_what (tree.logical_if e s) = tt
+    inner_what (tree.do_loop l) = tt
+    inner_what (tree.call x es) = tt
+    inner_what (tree.goto l) = tt
+    inner_what tree.continue = tt
+    inner_what tree.return = tt
+    inner_what (tree.stop text) = tt
+    inner_what (tree.print es) = tt
+    inner_what (tree.read es) = tt
+
+    inner_arms : (xs : ArmTrees) → AreForeign (inner_of_arms xs m cs)
+    inner_arms tree.no_arms = tt
+    inner_arms (tree.more_arms x rest) = inner_arm x
+
+    inner_arm : (x : ArmTree) → AreForeign (inner_of_arm x m cs)
+    inner_arm (tree.arm e body) = each_named body false
 
     else_named : (x : ElseTree) → IsForeign (else_transformer x m cs)
     else_named tree.no_else = tt

@@ -4,6 +4,7 @@ use Rattle.std.specs.Prelude.{if◌then◌else◌}
 use Rattle.affine_systems.proofs.Basics.{if_cases}
 use Rattle.f77_ast.specs.Trees.{ExprTree, StmtTree, WhatTree, ArmTree, ArmTrees, ElseTree, LoopTree, StmtTrees}
 use Rattle.f77_ast.specs.Trees as tree
+use Rattle.f77_ast.specs.DeclTrees.{ModuleTree}
 use Rattle.f77_ast.specs.Shapes.{Walk, walk_stmt, walk_what, walk_body, walk_arms, walk_arm, walk_else, walk_list}
 use Rattle.f77_ast.specs.Symbols.{number_from}
 use Rattle.f77_ast.specs.declared.variable.Unit.{Unit as BlockUnit}
@@ -23,11 +24,12 @@ use Rattle.f77_ast.specs.declared.marks.Mark.{Mark}
 use Rattle.f77_ast.specs.declared.marks.Mark.TheVariants.{Serial}
 use Rattle.f77_ast.specs.declared.marks.Reason.TheVariants.{Jump, InputOutput, Step, Index}
 use Rattle.in_out_regions.specs.region_sets.Lists.{is_access, accesses, or_none, accesses_at, list_regions}
+use Rattle.loop_marker.specs.privatizer.Functions.{own_functions}
 use Rattle.loop_marker.specs.privatizer.Uses.{Uses}
 use Rattle.loop_marker.specs.declared.verdict.Verdict.{Verdict}
 use Rattle.loop_marker.specs.declared.verdict.Verdict.TheVariants.{Free, Copied, Bad}
 use Rattle.loop_marker.specs.Jumps.{may_jump, may_have_io, body_of}
-use Rattle.loop_marker.specs.Variables.{own_variable, index_of, the_indexes, in_order_with, indexes_in, is_write, written_in}
+use Rattle.loop_marker.specs.Variables.{own_variable, index_of, the_indexes, in_order_with, indexes_in, with_names, inner_in, is_write, written_in}
 use Rattle.loop_marker.specs.Marks.{Knowledge, index_is_bad, with_own, verdict_of, by_verdict, marked, by_variables, has_step, by_index, by_step, by_io, mark_of, the_marks, marks_of}
 use Rattle.loop_marker.specs.Known.{knowledge_of}
 use Rattle.loop_marker.specs.module_phases.OutPhases.{ModuleOuts}
@@ -135,6 +137,16 @@ module _ (names : List (List ℕ)) where
         end = tt;
       }) list)
 
+  with_names_named : (so_far : List Variable) (xs : List (List ℕ)) → AreN so_far → AreN (with_names names so_far xs)
+  with_names_named so_far [] h = h
+  with_names_named so_far (x ∷ xs) h =
+      let own = own_variable (number_from 1 names x) in
+      with_names_named (union so_far own) xs (union_each N so_far own h (own_named (number_from 1 names x) (λ n e. let r = named_number names x n e in between names n r.0 r.1)))
+
+  -- nor are the results of functions other than symbols
+  inner_all_named : (m : ModuleTree) (l : LoopTree) → AreN (inner_in names m l)
+  inner_all_named m l = with_names_named (indexes_in names (body_of l)) (own_functions m (body_of l)) (indexes_named (body_of l))
+
   abbrev RegionsNamed : List Region → Type 0
   RegionsNamed rs = Each (λ (r : Region). N r.variable) rs
 
@@ -175,14 +187,14 @@ module _ (names : List (List ℕ)) where
         (choice_named (index_is_bad k b u l) (Serial Index) (by_variables k b u l inner) tt
         (marked_named (verdict_of k b u l inner) [] (union inner (written_in b.regions)) tt (union_each N inner (written_in b.regions) h (written_named b.regions (told l))))) tt
 
-    inner_named : (list : StmtTrees) → AreN (indexes_in k.names list)
-    inner_named list = subst (λ (ns : List (List ℕ)). AreN (indexes_in ns list)) own (indexes_named list)
+    inner_named : (l : LoopTree) → AreN (inner_in k.names k.tree l)
+    inner_named l = subst (λ (ns : List (List ℕ)). AreN (inner_in ns k.tree l)) own (inner_all_named k.tree l)
 
     mark_named : (n : ℕ) (label : Option ℕ) (l : LoopTree) → MarkFits names (mark_of k n label l)
     mark_named n label l =
-        let step = by_step k (k.body l) (k.uses n l) l (indexes_in k.names (body_of l)) in
+        let step = by_step k (k.body l) (k.uses n l) l (inner_in k.names k.tree l) in
         choice_named (may_jump k.tree.body k.effects label l) (Serial Jump) (by_io k n l) tt
-        (choice_named (may_have_io k.effects (body_of l)) (Serial InputOutput) step tt (by_step_named l (k.uses n l) (indexes_in k.names (body_of l)) (inner_named (body_of l))))
+        (choice_named (may_have_io k.effects (body_of l)) (Serial InputOutput) step tt (by_step_named l (k.uses n l) (inner_in k.names k.tree l) (inner_named l)))
 
     pub marks_named : Each (λ (m : At Mark). MarkFits names m.value) (marks_of k)
     marks_named =

@@ -28,9 +28,10 @@ use Rattle.preconditions.specs.call_translation.Scopes.{ScopeTree}
 use Rattle.preconditions.specs.call_translation.Variables.{auxiliaries_in}
 use Rattle.preconditions.specs.call_translation.Sites.{HoldingSite}
 use Rattle.preconditions.specs.call_translation.SiteEntry.{rows_from, names_from, site_entry}
-use Rattle.preconditions.specs.transformers.Jumps.{unstructured}
+use Rattle.preconditions.specs.transformers.Jumps.{is_end, unstructured}
 use Rattle.preconditions.specs.transformers.Lists.{list_at}
-use Rattle.preconditions.specs.Statement.{PreconditionList, hull_from, some_holds, if_true, if_false, parts_of, each_iteration, done, throughout, past_arm, past_arms, after, after_what, after_each, after_arms, after_arm, after_else, after_loop_of, at_stmt, at_parts, at_each, at_all, at_arms, at_arm, at_else, at_loop, at_list}
+use Rattle.preconditions.specs.transformers.Whiles.{WhileTree, while_in}
+use Rattle.preconditions.specs.Statement.{PreconditionList, hull_from, some_holds, if_true, if_false, parts_of, each_iteration, done, throughout, while_iteration_of, while_begins, while_ends, while_found, past_arm, past_arms, after, after_what, after_each, after_arms, after_arm, at_goto, goto_of_stmt, goto_of_what, goto_of_arms, goto_of_arm, before_last, after_else, after_loop_of, at_stmt, at_parts, at_each, at_all, at_arms, at_arm, at_else, at_loop, at_list}
 use Rattle.preconditions.specs.Entry.{begins_with, initial_row, initial_from, entry_of}
 use Rattle.base_values.specs.Naming.{Each}
 use Rattle.laws_stored.proofs.Tidied.{AreAscending, ascending-append, push_fit, of_rows_fit, meet_fit, rename_fit, renamed_rows}
@@ -91,6 +92,21 @@ module _ (m : ScopeTree) (t : PreconditionList) where
   throughout_fits : (whole : Bool) (body : StmtTrees) (p : System) → Fits p → Fits (throughout whole body t p)
   throughout_fits whole body p h = without_fits (list_at t whole body).cells p h
 
+  -- ---- DO WHILE
+
+  begins_fits : (o : Option WhileTree) (p : System) → Fits p → Fits (while_begins o m t p)
+  begins_fits None p h = h
+  begins_fits (Some w) p h = let i = iterate (while_iteration_of w m t) in clean_fits (apply i p) (apply_fits i p)
+
+  ends_fits : (o : Option WhileTree) (p q r : System) → Fits p → Fits q → Fits r → Fits (while_ends o m p q r)
+  ends_fits None p q r h i k = k
+  ends_fits (Some w) p q r h i k = hull_fit (if_false m w.test p) (if_false m w.test q) (false_fits w.test p h) (false_fits w.test q i)
+
+  found_fits : (o : Option WhileTree) (as' bs : List (At System)) → Each (λ (a : At System). Fits a.value) as' → Each (λ (a : At System). Fits a.value) bs
+      → Each (λ (a : At System). Fits a.value) (while_found o as' bs)
+  found_fits None as' bs h k = k
+  found_fits (Some w) as' bs h k = h
+
   past_fits : (x : ArmTree) (p : System) → Fits p → Fits (past_arm x m p)
   past_fits (tree.arm e body) p h = false_fits e p h
 
@@ -133,7 +149,44 @@ module _ (m : ScopeTree) (t : PreconditionList) where
     after_one_arm (tree.arm e body) p h =
         let q = if_true m e p in
         let k = true_fits e p h in
-        if_cases Fits (unstructured false body) (throughout false body t q) (after_each body m t q) (λ u. throughout_fits false body q k) (λ u. after_stmts body q k)
+        let b = while_begins (while_in body) m t q in
+        ends_fits (while_in body) q (at_goto body m t b) (if unstructured false body then throughout false body t q else after_each body m t q) k
+        (goto_fits body b (begins_fits (while_in body) q k))
+        (if_cases Fits (unstructured false body) (throughout false body t q) (after_each body m t q) (λ u. throughout_fits false body q k) (λ u. after_stmts body q k))
+
+    goto_fits : (ss : StmtTrees) (p : System) → Fits p → Fits (at_goto ss m t p)
+    goto_fits tree.no_stmts p h = h
+    goto_fits (tree.more_stmts s rest) p h = goto_stmt s p h
+
+    goto_stmt : (s : StmtTree) (p : System) → Fits p → Fits (goto_of_stmt s m t p)
+    goto_stmt (tree.stmt n label w) p h = goto_what w p h
+
+    goto_what : (w : WhatTree) (p : System) → Fits p → Fits (goto_of_what w m t p)
+    goto_what (tree.assign x e) p h = h
+    goto_what (tree.block_if arms other) p h = goto_arms arms p h
+    goto_what (tree.logical_if e s) p h = h
+    goto_what (tree.do_loop l) p h = h
+    goto_what (tree.call x es) p h = h
+    goto_what (tree.goto l) p h = h
+    goto_what tree.continue p h = h
+    goto_what tree.return p h = h
+    goto_what (tree.stop text) p h = h
+    goto_what (tree.print es) p h = h
+    goto_what (tree.read es) p h = h
+
+    goto_arms : (xs : ArmTrees) (p : System) → Fits p → Fits (goto_of_arms xs m t p)
+    goto_arms tree.no_arms p h = h
+    goto_arms (tree.more_arms x rest) p h = goto_arm x p h
+
+    goto_arm : (x : ArmTree) (p : System) → Fits p → Fits (goto_of_arm x m t p)
+    goto_arm (tree.arm e body) p h =
+        let q = if_true m e p in
+        let k = true_fits e p h in
+        if_cases Fits (unstructured false body) (throughout false body t q) (before_last body m t q) (λ u. throughout_fits false body q k) (λ u. last_fits body q k)
+
+    last_fits : (ss : StmtTrees) (p : System) → Fits p → Fits (before_last ss m t p)
+    last_fits tree.no_stmts p h = h
+    last_fits (tree.more_stmts s rest) p h = if_cases Fits (is_end rest) p (before_last rest m t (after s m t p)) (λ u. h) (λ u. last_fits rest (after s m t p) (after_stmt s p h))
 
     after_other : (x : ElseTree) (p : System) → Fits p → Fits (after_else x m t p)
     after_other tree.no_else p h = h
@@ -183,8 +236,13 @@ module _ (m : ScopeTree) (t : PreconditionList) where
 
     at_one_arm : (x : ArmTree) (p : System) → Fits p → Each F (at_arm x m t p)
     at_one_arm (tree.arm e body) p h =
-        if_cases (Each F) (unstructured false body) (at_all body m t (throughout false body t (if_true m e p))) (at_each body m t (if_true m e p))
-        (λ u. at_same body (throughout false body t (if_true m e p)) (throughout_fits false body (if_true m e p) (true_fits e p h))) (λ u. at_stmts body (if_true m e p) (true_fits e p h))
+        let q = if_true m e p in
+        let k = true_fits e p h in
+        let b = while_begins (while_in body) m t q in
+        found_fits (while_in body) (at_all body m t b) (if unstructured false body then at_all body m t (throughout false body t q) else at_each body m t q)
+        (at_same body b (begins_fits (while_in body) q k))
+        (if_cases (Each F) (unstructured false body) (at_all body m t (throughout false body t q)) (at_each body m t q)
+        (λ u. at_same body (throughout false body t q) (throughout_fits false body q k)) (λ u. at_stmts body q k))
 
     at_other : (x : ElseTree) (p : System) → Fits p → Each F (at_else x m t p)
     at_other tree.no_else p h = tt

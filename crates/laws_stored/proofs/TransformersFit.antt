@@ -21,7 +21,8 @@ use Rattle.preconditions.specs.transformers.Jumps.{unstructured, is_end}
 use Rattle.preconditions.specs.transformers.Lists.{followed_by, in_order, in_any_order, list_of}
 use Rattle.preconditions.specs.transformers.Loops.{loop_parts}
 use Rattle.preconditions.specs.transformers.Simple.{becomes}
-use Rattle.preconditions.specs.transformers.Statement.{where_holds, without_arm, without_arms, stmt_transformer, what_transformer, each_transformer, arm_transformers, else_transformer, body_transformer, list_transformer, at_stmt, at_parts, at_list, at_arms, at_arm, at_else, at_loop}
+use Rattle.preconditions.specs.transformers.Whiles.{while_in, while_or}
+use Rattle.preconditions.specs.transformers.Statement.{where_holds, without_arm, without_arms, stmt_transformer, what_transformer, each_transformer, arm_transformers, inner_transformers, else_transformer, body_transformer, list_transformer, at_stmt, at_parts, at_list, at_arms, at_arm, at_else, at_loop}
 use Rattle.preconditions.specs.transformers.Modules.{hidden_vars, summary_of}
 use Rattle.base_values.specs.Naming.{Each}
 use Rattle.laws_stored.proofs.RulesFit.{none_fit, infeasible_fit, exit_fits, followed_fits, AreFit, one_of_fits, loop_fits, called_fits}
@@ -55,7 +56,8 @@ module _ (m : ScopeTree) (cs : Callees) where
   arms_are : (xs : ArmTrees) (before : System) → AreFit (arm_transformers xs m cs before)
   arms_are tree.no_arms before = tt
   arms_are (tree.more_arms (tree.arm e body) rest) before =
-      (followed_fits (test (meet before (condition_of m.scalars e).yes)) (list_of false body (each_transformer body m cs false)), arms_are rest (without_arm (tree.arm e body) m before))
+      let t = while_or (while_in body) m (inner_transformers body m cs) (list_of false body (each_transformer body m cs false)) in
+      (followed_fits (test (meet before (condition_of m.scalars e).yes)) t, arms_are rest (without_arm (tree.arm e body) m before))
 
   pub what_fits : (w : WhatTree) (last : Bool) → Fits (what_transformer w m cs last).system
   what_fits (tree.assign x e) last = becomes_of (named_cell m.scalars x) (affine_of m.scalars e)

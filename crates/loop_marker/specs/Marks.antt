@@ -1,5 +1,5 @@
 -- Which loops of a module are parallel, and the first obstacle of each other loop.
-use Rattle.std.specs.Prelude.{ℕ, Bool, true, false, not, ◌||◌, if◌then◌else◌, List, [], ◌∷◌, ◌++◌, Option, Some, None, is_some}
+use Rattle.std.specs.Prelude.{ℕ, Bool, true, false, not, ◌&&◌, ◌||◌, if◌then◌else◌, List, [], ◌∷◌, ◌++◌, Option, Some, None, is_some}
 use Rattle.affine_systems.specs.declared.row.System.{System}
 use Rattle.f77_ast.specs.Trees.{StmtTrees, LoopTree}
 use Rattle.f77_ast.specs.DeclTrees.{ModuleTree}
@@ -21,6 +21,7 @@ use Rattle.f77_ast.specs.declared.marks.Mark.{Mark}
 use Rattle.f77_ast.specs.declared.marks.Mark.TheVariants.{Parallel, Serial}
 use Rattle.dependence_test.specs.declared.body.LoopBody.{LoopBody}
 use Rattle.dependence_test.specs.Conflicts.{kept_system}
+use Rattle.privatizer.specs.Functions.{is_function, is_one_of, own_functions}
 use Rattle.privatizer.specs.Names.{may_copy}
 use Rattle.privatizer.specs.Private.{private_in}
 use Rattle.privatizer.specs.Uses.{Uses}
@@ -28,7 +29,7 @@ use Rattle.loop_marker.specs.declared.verdict.Verdict.{Verdict}
 use Rattle.loop_marker.specs.declared.verdict.Verdict.TheVariants.{Free, Copied, Bad}
 use Rattle.loop_marker.specs.Names.{bounds_have_name}
 use Rattle.loop_marker.specs.Jumps.{may_jump, may_have_io, body_of}
-use Rattle.loop_marker.specs.Variables.{indexes_in, written_in, is_among, is_of_some}
+use Rattle.loop_marker.specs.Variables.{inner_in, written_in, is_among, is_of_some}
 
 -- what is known of a module: its tree, its symbols and their names, the effects of its statements; of a DO by its number, what is known of its iterations and of the regions around it
 pub record Knowledge : Type 0 where
@@ -51,6 +52,19 @@ is_in_bounds ss l (variable.Own n) = symbol_in_bounds l (symbol_at ss n)
 is_in_bounds ss l (variable.Block x) = false
 is_in_bounds ss l (variable.Saved x y) = false
 
+-- the name is that of a function of which the module takes a value; and it is saved, or the body of the DO takes none
+abbrev pub is_other_name : ModuleTree → LoopTree → List ℕ → Bool
+is_other_name m l x = is_function m x && not (is_one_of (own_functions m (body_of l)) x)
+
+abbrev pub symbol_is_other : ModuleTree → LoopTree → Option SymbolTree → Bool
+symbol_is_other m l None = false
+symbol_is_other m l (Some s) = is_other_name m l s.name
+
+abbrev pub is_other_result : ModuleTree → List SymbolTree → LoopTree → Variable → Bool
+is_other_result m ss l (variable.Own n) = symbol_is_other m l (symbol_at ss n)
+is_other_result m ss l (variable.Block x) = false
+is_other_result m ss l (variable.Saved x y) = false
+
 -- ---- the variable of the DO
 
 -- each iteration may have its own, and nothing needs it afterwards
@@ -71,7 +85,7 @@ abbrev pub kept_kinds : List SymbolTree → LoopBody → Variable → List Kinds
 kept_kinds ss b v =
     with_kind (keeps ss b v WriteRead) WriteRead (with_kind (keeps ss b v ReadWrite) ReadWrite (with_kind (keeps ss b v WriteWrite) WriteWrite []))
 
--- the variable of a DO in the body depends on itself: OpenMP gives each iteration its own, whatever the directive says
+-- the variable of a DO in the body, or the result of a function, depends on itself: each iteration has its own, whatever the directive says
 abbrev pub or_of_index : Bool → List Kinds → List Kinds
 or_of_index inner [] = if inner then WriteWrite ∷ [] else []
 or_of_index inner (k ∷ ks) = k ∷ ks
@@ -87,7 +101,7 @@ unless_named named Carried = Carried
 unless_named named Live = Live
 
 abbrev pub copy_answer : Knowledge → Uses → LoopTree → Variable → Private
-copy_answer k u l v = unless_named (is_in_bounds k.symbols l v) (private_in k.tree k.symbols u v)
+copy_answer k u l v = unless_named (is_in_bounds k.symbols l v || is_other_result k.tree k.symbols l v) (private_in k.tree k.symbols u v)
 
 abbrev pub with_own : List ℕ → Variable → List ℕ
 with_own ns (variable.Own n) = ns ++ n ∷ []
@@ -121,7 +135,7 @@ abbrev pub marked : (Variable → Verdict) → List ℕ → List Variable → Ma
 marked f ns [] = Parallel ns
 marked f ns (v ∷ vs) = by_verdict v (marked f ns vs) (marked f (with_own ns v) vs) (f v)
 
--- of a DO that nothing else stands against: the variables that the body writes, and those of DO statements in it
+-- of a DO that nothing else stands against: the variables that the body writes, and those of which each iteration has its own
 abbrev pub by_variables : Knowledge → LoopBody → Uses → LoopTree → List Variable → Mark
 by_variables k b u l inner = marked (verdict_of k b u l inner) [] (union inner (written_in b.regions))
 
@@ -136,7 +150,7 @@ abbrev pub by_step : Knowledge → LoopBody → Uses → LoopTree → List Varia
 by_step k b u l inner = if has_step b then by_index k b u l inner else Serial Step
 
 abbrev pub by_io : Knowledge → ℕ → LoopTree → Mark
-by_io k n l = if may_have_io k.effects (body_of l) then Serial InputOutput else by_step k (k.body l) (k.uses n l) l (indexes_in k.names (body_of l))
+by_io k n l = if may_have_io k.effects (body_of l) then Serial InputOutput else by_step k (k.body l) (k.uses n l) l (inner_in k.names k.tree l)
 
 abbrev pub mark_of : Knowledge → ℕ → Option ℕ → LoopTree → Mark
 mark_of k n label l = if may_jump k.tree.body k.effects label l then Serial Jump else by_io k n l

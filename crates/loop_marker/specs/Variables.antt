@@ -3,6 +3,7 @@ use Rattle.std.specs.Prelude.{ℕ, Bool, true, false, if◌then◌else◌, List,
 use Rattle.std.specs.List.{list_any}
 use Rattle.f77_ast.specs.Trees.{StmtTrees, LoopTree}
 use Rattle.f77_ast.specs.Trees as tree
+use Rattle.f77_ast.specs.DeclTrees.{ModuleTree}
 use Rattle.f77_ast.specs.Shapes.{Walk, walk_list}
 use Rattle.f77_ast.specs.Symbols.{number_from}
 use Rattle.f77_ast.specs.declared.variable.Variable.{Variable}
@@ -11,6 +12,8 @@ use Rattle.f77_ast.specs.Variables.{union, same_variable}
 use Rattle.region_sets.specs.declared.region.Access.{Access}
 use Rattle.region_sets.specs.declared.region.Access.TheVariants.{Read, Write, In, Out}
 use Rattle.region_sets.specs.declared.region.Region.{Region}
+use Rattle.privatizer.specs.Functions.{own_functions}
+use Rattle.loop_marker.specs.Jumps.{body_of}
 
 abbrev pub own_variable : Option ℕ → List Variable
 own_variable None = []
@@ -42,6 +45,15 @@ in_order_with so_far (v ∷ vs) = in_order_with (union so_far (v ∷ [])) vs
 
 abbrev pub indexes_in : List (List ℕ) → StmtTrees → List Variable
 indexes_in names list = in_order_with [] (walk_list (the_indexes names) list)
+
+-- those so far, and the symbols with the other names, in order, each once
+abbrev pub with_names : List (List ℕ) → List Variable → List (List ℕ) → List Variable
+with_names names so_far [] = so_far
+with_names names so_far (x ∷ xs) = with_names names (union so_far (own_variable (number_from 1 names x))) xs
+
+-- of which each iteration of a DO has one of its own: the variables of the DO statements in its body, and the results of functions
+abbrev pub inner_in : List (List ℕ) → ModuleTree → LoopTree → List Variable
+inner_in names m l = with_names names (indexes_in names (body_of l)) (own_functions m (body_of l))
 
 abbrev pub is_write : Access → Bool
 is_write Read = false

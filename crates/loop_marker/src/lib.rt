@@ -1,6 +1,7 @@
 //! Which loops of a module are parallel, and the first obstacle of each other loop.
 #![tactic(auto)]
 
+mod functions;
 mod jumps;
 mod loops;
 mod names;

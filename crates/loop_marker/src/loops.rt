@@ -4,15 +4,12 @@ ghost use Rattle.f77_ast.specs.PlainStmt.{stmt_tree, stmt_trees, loop_tree, arm_
 ghost use Rattle.f77_ast.specs.Shapes.{walk_stmt, walk_list, walk_arms};
 ghost use Rattle.dependence_test.specs.Given.{AnalysisFits, BodyFits};
 ghost use Rattle.privatizer.specs.Views.{UsesFit, uses_tree};
-ghost use Rattle.f77_ast.specs.Index.{names_of};
-ghost use Rattle.loop_marker.specs.Jumps.{body_of as loop_body_is};
-ghost use Rattle.loop_marker.specs.Variables.{indexes_in as indexes_in_is};
 ghost use Rattle.loop_marker.specs.Known.{known_module};
 ghost use Rattle.loop_marker.specs.Marks.{index_is_bad as index_is_bad_is, marked as marked_is, with_own as with_own_is, by_variables as by_variables_is, by_index as by_index_is, by_step as by_step_is, by_io as by_io_is, mark_of as mark_of_is, the_marks, marks_of, verdict_of as verdict_of_is};
 
 use crate::jumps::{may_have_io, may_jump};
 use crate::names::is_in_bounds;
-use crate::variables::{indexes_in, is_of_some, written_in};
+use crate::variables::{inner_in, is_of_some, written_in};
 use crate::verdict::{Looked, Verdict, verdict_of};
 use dependence_test::{Analysis, body_of};
 use f77_ast::{
@@ -102,14 +99,6 @@ fn by_step(alloc: Global, a: &Analysis<'_>, looked: &Looked<'_>) -> Result<Mark,
     by_index(alloc, a, looked)
 }
 
-/// The variables of the DO statements in the body of a DO, in order, each once.
-#[tactic(auto, using(crate::proofs::Steps::loops))]
-fn inner_of(alloc: Global, symbols: &Symbols, l: &Loop) -> Result<List<Variable>, Memory>
-    ensures { IfOk result (λ vs. vs ≡ indexes_in_is (names_of symbols.now) (loop_body_is (loop_tree l.now))) }
-{
-    indexes_in(alloc, symbols, &l.body)
-}
-
 fn by_io(alloc: Global, a: &Analysis<'_>, at: StmtId, l: &Loop) -> Result<Mark, Memory>
     requires { AnalysisFits a.now }
     ensures { IfOk result (λ m. m ≡ by_io_is (known_module a.now) at (loop_tree l.now)) }
@@ -121,7 +110,7 @@ fn by_io(alloc: Global, a: &Analysis<'_>, at: StmtId, l: &Loop) -> Result<Mark, 
         the_loop: l,
         body: body_of(alloc, a, l)?,
         uses: uses_of(alloc, a, at, l)?,
-        inner: inner_of(alloc, a.view.symbols, l)?,
+        inner: inner_in(alloc, a.view, l)?,
     };
     by_step(alloc, a, &looked)
 }

@@ -1,14 +1,18 @@
 //! The variables of a DO that iterations might need copies of.
 ghost use Rattle.std.specs.Prelude.{◌≡◌, ◌++◌, ◌∷◌, [], IfOk, OnOk};
 ghost use Rattle.f77_ast.specs.PlainStmt.{stmt_tree, stmt_trees, loop_tree, arm_trees};
+ghost use Rattle.f77_ast.specs.PlainDecl.{module_tree};
 ghost use Rattle.f77_ast.specs.Shapes.{walk_stmt, walk_list, walk_arms};
 ghost use Rattle.f77_ast.specs.Index.{names_of};
-ghost use Rattle.loop_marker.specs.Variables.{own_variable as own_variable_is, index_of as index_of_is, the_indexes, in_order_with, indexes_in as indexes_in_is, is_write as is_write_is, written_in as written_in_is, is_among as is_among_is, is_of_some as is_of_some_is};
+ghost use Rattle.f77_ast.specs.Symbols.{number_from};
+ghost use Rattle.loop_marker.specs.Variables.{own_variable as own_variable_is, index_of as index_of_is, the_indexes, in_order_with, indexes_in as indexes_in_is, with_names as with_names_is, inner_in as inner_in_is, is_write as is_write_is, written_in as written_in_is, is_among as is_among_is, is_of_some as is_of_some_is};
 
+use call_graph::View;
 use f77_ast::{
     Arm, Loop, Shape, Stmt, Symbols, Variable, copy_variable, same_variable, shape_of, union,
 };
-use fx_lists::List;
+use fx_lists::{List, Text};
+use privatizer::own_functions;
 use region_sets::{Access, Region};
 use std::alloc::{AllocError as Memory, Global};
 
@@ -101,16 +105,55 @@ fn in_order(alloc: Global, variables: &[Variable]) -> Result<List<Variable>, Mem
 }
 
 /// The variables of the DO statements in a list, in order, each once.
-pub fn indexes_in(
-    alloc: Global,
-    symbols: &Symbols,
-    list: &List<Stmt>,
-) -> Result<List<Variable>, Memory>
+fn indexes_in(alloc: Global, symbols: &Symbols, list: &List<Stmt>) -> Result<List<Variable>, Memory>
     ensures { IfOk result (λ vs. vs ≡ indexes_in_is (names_of symbols.now) (stmt_trees list.now)) }
 {
     let mut made = Vec::new(alloc);
     push_list(&mut made, symbols, list)?;
     in_order(alloc, made.as_slice())
+}
+
+/// The symbol with a name, where there is one.
+fn named(alloc: Global, symbols: &Symbols, name: &Text) -> Result<List<Variable>, Memory>
+    ensures { IfOk result (λ vs. vs ≡ own_variable_is (number_from 1 (names_of symbols.now) name.now)) }
+{
+    let mut made = List::new(alloc);
+    match symbols.number(name) {
+        None => {}
+        Some(number) => made.push(Variable::Own(number))?,
+    }
+    Ok(made)
+}
+
+/// These, and the symbols with the other names, in order, each once.
+#[tactic(auto, using(crate::proofs::Steps::lists))]
+fn with_names(
+    alloc: Global,
+    symbols: &Symbols,
+    variables: List<Variable>,
+    names: &List<Text>,
+) -> Result<List<Variable>, Memory>
+    ensures { IfOk result (λ vs. vs ≡ with_names_is (names_of symbols.now) variables names.now) }
+{
+    let mut all = variables;
+    let mut rest = names.as_slice();
+    while let [name, more @ ..] = rest {
+        let one = named(alloc, symbols, name)?;
+        all = union(alloc, &all, &one)?;
+        rest = more;
+    }
+    Ok(all)
+}
+
+/// The variables of which each iteration of a DO has one of its own: those of the DO statements in its body, and the results of the functions of which
+/// it takes values; in order, each once.
+#[tactic(auto, using(crate::proofs::Steps::loops))]
+pub fn inner_in(alloc: Global, view: &View<'_>, l: &Loop) -> Result<List<Variable>, Memory>
+    ensures { IfOk result (λ vs. vs ≡ inner_in_is (names_of view.now.symbols.now) (module_tree view.now.«module».now) (loop_tree l.now)) }
+{
+    let indexes = indexes_in(alloc, view.symbols, &l.body)?;
+    let functions = own_functions(alloc, view.module, &l.body)?;
+    with_names(alloc, view.symbols, indexes, &functions)
 }
 
 fn is_write(access: Access) -> bool

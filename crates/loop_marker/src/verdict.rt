@@ -1,12 +1,13 @@
 //! What stands against the iterations of a DO by one of its variables.
-ghost use Rattle.std.specs.Prelude.{◌≡◌, ◌++◌, [], map, IfOk, OnOk};
+ghost use Rattle.std.specs.Prelude.{◌≡◌, ◌||◌, ◌++◌, [], map, IfOk, OnOk};
 ghost use Rattle.f77_ast.specs.PlainStmt.{loop_tree};
 ghost use Rattle.f77_ast.specs.Symbols.{symbol_tree};
 ghost use Rattle.dependence_test.specs.Given.{AnalysisFits, BodyFits};
 ghost use Rattle.privatizer.specs.Views.{UsesFit, uses_tree};
 ghost use Rattle.loop_marker.specs.Known.{known_module};
-ghost use Rattle.loop_marker.specs.Marks.{keeps as keeps_is, kept_kinds as kept_kinds_is, kinds_of as kinds_of_is, unless_named as unless_named_is, copy_answer as copy_answer_is, by_kinds as by_kinds_is, by_answer as by_answer_is, verdict_of as verdict_of_is, with_kind, or_of_index as or_of_index_is};
+ghost use Rattle.loop_marker.specs.Marks.{keeps as keeps_is, kept_kinds as kept_kinds_is, kinds_of as kinds_of_is, is_in_bounds as is_in_bounds_is, is_other_result as is_other_result_is, copy_answer as copy_answer_is, by_kinds as by_kinds_is, by_answer as by_answer_is, verdict_of as verdict_of_is, with_kind, or_of_index as or_of_index_is};
 
+use crate::functions::is_other_result;
 use crate::names::is_in_bounds;
 use crate::variables::is_among;
 use dependence_test::{Analysis, Conflict, LoopBody, conflict_of};
@@ -21,7 +22,7 @@ pub struct Looked<'a> {
     pub the_loop: &'a Loop,
     pub body: LoopBody,
     pub uses: Uses<'a>,
-    /// The variables of the DO statements in the body.
+    /// The variables of which each iteration has one of its own.
     pub inner: List<Variable>,
 }
 
@@ -106,16 +107,20 @@ fn kinds_of(
     or_of_index(is_among(looked.inner.as_slice(), v), kept)
 }
 
-/// No copy where the bounds of the DO name it, which OpenMP evaluates where copies have no value yet.
-fn unless_named(named: bool, private: Private) -> Private
-    ensures { result ≡ unless_named_is named private }
+/// Whether the name of a variable has another use, so that there is no copy: the bounds of the DO name it, which OpenMP evaluates where copies have no
+/// value yet, or it is the result of a function of which the body takes no value, or which is saved.
+fn has_other_use(
+    alloc: Global,
+    a: &Analysis<'_>,
+    looked: &Looked<'_>,
+    v: &Variable,
+) -> Result<bool, Memory>
+    ensures { IfOk result (λ b. b ≡ (is_in_bounds_is (known_module a.now).symbols (loop_tree looked.now.the_loop.now) v.now || is_other_result_is (known_module a.now).tree (known_module a.now).symbols (loop_tree looked.now.the_loop.now) v.now)) }
 {
-    match private {
-        Private::Yes => if named { Private::Name } else { Private::Yes },
-        Private::Name => Private::Name,
-        Private::Carried => Private::Carried,
-        Private::Live => Private::Live,
+    if is_in_bounds(a.view.symbols, looked.the_loop, v) {
+        return Ok(true);
     }
+    is_other_result(alloc, a.view, looked.the_loop, v)
 }
 
 fn copy_answer(
@@ -127,9 +132,18 @@ fn copy_answer(
     requires { UsesFit looked.now.uses }
     ensures { IfOk result (λ p. p ≡ copy_answer_is (known_module a.now) (uses_tree looked.now.uses) (loop_tree looked.now.the_loop.now) v.now) }
 {
-    let private = private_of(alloc, a.view, &looked.uses, v)?;
-    let named = is_in_bounds(a.view.symbols, looked.the_loop, v);
-    Ok(unless_named(named, private))
+    match private_of(alloc, a.view, &looked.uses, v)? {
+        Private::Yes => {
+            if has_other_use(alloc, a, looked, v)? {
+                Ok(Private::Name)
+            } else {
+                Ok(Private::Yes)
+            }
+        }
+        Private::Name => Ok(Private::Name),
+        Private::Carried => Ok(Private::Carried),
+        Private::Live => Ok(Private::Live),
+    }
 }
 
 fn by_answer(kinds: List<Kinds>, private: Private) -> Verdict

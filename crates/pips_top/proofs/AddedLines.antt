@@ -17,6 +17,8 @@ use Rattle.pipsmake_base.specs.module_phases.InPhases.{ModuleIns, all_ins}
 use Rattle.pipsmake_base.specs.module_phases.OutPhases.{ModuleOuts, all_outs}
 use Rattle.pipsmake_base.specs.loop_marker.Results.{ModuleResults}
 use Rattle.pipsmake_base.specs.loop_marker.Phases.{phases_of, analysis_in, all_marks}
+use Rattle.pipsmake_base.specs.privatizer.Functions.{module_functions}
+use Rattle.pipsmake_base.specs.result_lines.ShownMarks.{marks_without}
 use Rattle.pipsmake_base.specs.result_lines.ScalarLines.{Said, before, holds_lines, changes_lines, does_lines, says_changes, visible_lines, own_lines, stmt_lines, part_lines, list_lines, arms_lines, arm_lines, else_lines, loop_lines, entry_lines, said}
 use Rattle.system_text.specs.SystemText.{precondition_line, transformer_line}
 use Rattle.laws_programs.specs.roundtrip_programs.Statements.Formed.{Each}
@@ -40,7 +42,7 @@ use Rattle.pipsmake_base.specs.result_lines.declared.show.Show.{Show}
 use Rattle.pipsmake_base.specs.result_lines.declared.show.Show.TheVariants.{All, Bare, Why}
 use Rattle.pips_top.proofs.LinesFound.{region_lines_found, scalar_lines_found, claims_found, mark_lines_found, lines_in}
 use Rattle.pips_top.proofs.Programs.{each_at}
-use Rattle.pips_top.proofs.MarkNames.{MarksNamed, found_named, all_shown}
+use Rattle.pips_top.proofs.MarkNames.{MarksNamed, found_named, all_without_named, all_shown}
 use Rattle.pips_top.proofs.Said.{said_at, regions_at, ins_at, outs_at, marks_are}
 use Rattle.fx_lists.proofs.Every.{every_at}
 
@@ -174,7 +176,10 @@ all_said law on_ins on_outs on_marks p t n = from_places (all_marks g os) each
           ins = each_at InLinesPass is (on_ins p.modules p.tables g t n) here.0 (phases_of f).known here.1;
           outs = each_at OutLinesPass os (on_outs p.modules p.tables g t n) out.0 (phases_of f) out.1;
           named = marks;
-          marks = λ why. on_marks (symbol_names f.known.symbols) why f.marks names (all_shown (symbol_names f.known.symbols) f.marks marks);
+          marks =
+              let own = symbol_names f.known.symbols in
+              let functions = module_functions f.known.read in
+              λ why. on_marks own why (marks_without functions own f.marks) names (all_shown own (marks_without functions own f.marks) (all_without_named functions own IsShown f.marks marks));
         }
 
 each_passed : (xs : List Added) → AllByRecursion IsPassedOver xs → AreOver xs

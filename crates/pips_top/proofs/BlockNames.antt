@@ -7,8 +7,7 @@ use Rattle.std.proofs.lemmas.Bool.{and_from, and_parts, or_left}
 use Rattle.std.proofs.lemmas.Slice.Eq.{bytes_eq-Decides}
 use Rattle.f77_ast.specs.declared.module.FunctionForm.{FunctionForm}
 use Rattle.f77_ast.specs.declared.places.Part.TheVariants as parts
-use Rattle.f77_ast.specs.DeclTrees.{CommonTree, DeclTree, ModuleTree, ParsedTree}
-use Rattle.f77_ast.specs.DeclTrees as decl
+use Rattle.f77_ast.specs.DeclTrees.{CommonTree, ParsedTree}
 use Rattle.f77_exprs.specs.Lexical.{skip_name}
 use Rattle.f77_exprs.specs.Lexical as lexical
 use Rattle.f77_statements.specs.Phrases.{program}
@@ -16,14 +15,14 @@ use Rattle.f77_ast.specs.declared.symbol.Place.{Place}
 use Rattle.f77_ast.specs.declared.symbol.Place.TheVariants.{Local, Dummy, Block, Constant}
 use Rattle.f77_ast.specs.Symbols.{SymbolTree}
 use Rattle.f77_meaning.specs.Modules.{known_of, symbol_names}
-use Rattle.storage_layout.specs.Statements.{Has, commons_in, commons, members_in}
+use Rattle.storage_layout.specs.Statements.{Has, commons, members_in}
 use Rattle.storage_layout.specs.Symbols.{symbols_of}
-use Rattle.laws_programs.specs.roundtrip_programs.Statements.Formed.{IsName, Each, Filled}
+use Rattle.laws_programs.specs.roundtrip_programs.Statements.Formed.{IsName, Each}
 use Rattle.laws_programs.specs.roundtrip_programs.Statements.Phrased.{IsPhrase}
-use Rattle.laws_programs.specs.roundtrip_programs.Statements.Declared.{IsBlock, IsCommon, IsDecl}
+use Rattle.laws_programs.specs.roundtrip_programs.Statements.Declared.{IsBlock, IsCommon}
 use Rattle.laws_programs.specs.roundtrip_programs.ModuleTexts.Cards.{Card, card, head_phrase, title_cards, decl_cards, statements_of}
 use Rattle.laws_programs.specs.roundtrip_programs.ModuleTexts.Numbered.{TitleFits, IsWell}
-use Rattle.laws_programs.proofs.RoundtripPrograms.ModuleTexts.Each.{Each-append, each-map}
+use Rattle.laws_programs.proofs.RoundtripPrograms.ModuleTexts.Each.{each-map}
 use Rattle.laws_programs.proofs.RoundtripPrograms.ModuleTexts.Kept.{Held}
 use Rattle.laws_programs.specs.roundtrip_programs.Lines.{IsShown, AreShown}
 use Rattle.laws_programs.specs.roundtrip_programs.Programs.{IsFormed, NamesAreShown}
@@ -36,7 +35,7 @@ use Rattle.laws_lines.specs.NameLaws.{AreWords}
 use Rattle.laws_programs.specs.Programs.{AreTables}
 use Rattle.laws_programs.proofs.Sources.{IsBuilt}
 use Rattle.laws_lines.specs.Regions.Names.{PlaceNamed, SymbolNamed, AreNamed}
-use Rattle.pipsmake_base.proofs.LawsStored.TableNames.{heads, filled, in_decl, commons_formed}
+use Rattle.pipsmake_base.proofs.LawsStored.TableNames.{heads, commons_formed}
 use Rattle.fx_lists.proofs.Booleans.{or_turned}
 use Rattle.laws_programs.proofs.RoundtripPrograms.ModuleTexts.Cards.{Any as AnyLabel}
 

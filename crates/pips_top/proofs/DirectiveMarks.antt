@@ -1,8 +1,7 @@
--- Each directive that is found is the mark of the DO with its number, with the names of the symbols of which the mark says that they are private.
-use Rattle.std.proofs.Common.{◌≡◌, ℕ, zero, suc, ◌-◌, ◌<◌, Bool, true, false, List, [], ◌∷◌, map, Option, Some, None, arith, refl, sym, ap, ◌∙◌, subst, nat_eq, eq-eqb}
+-- Each directive that is found is the mark of the DO with its number, with the names of the symbols of which the mark says that they are private: first those that are no functions, then the functions.
+use Rattle.std.proofs.Common.{◌≡◌, ℕ, zero, suc, ◌-◌, ◌<◌, Bool, true, false, List, [], ◌∷◌, ◌++◌, map, Option, Some, None, arith, refl, sym, ap, ◌∙◌, subst, nat_eq, eq-eqb}
 use Rattle.std.specs.Prelude.{if◌then◌else◌, slice_get}
 use Rattle.std.proofs.lemmas.Bool.{eqb-true, ne_eqb}
-use Rattle.f77_ast.specs.DeclTrees.{ModuleTree}
 use Rattle.f77_meaning.specs.Modules.{known_of, symbol_names}
 use Rattle.f77_ast.specs.declared.results.At.{At}
 use Rattle.system_text.specs.SystemText.{name_at}
@@ -16,10 +15,11 @@ use Rattle.f77_ast.specs.declared.marks.Mark.{Mark}
 use Rattle.f77_ast.specs.declared.marks.Mark.TheVariants.{Parallel}
 use Rattle.pipsmake_base.specs.loop_marker.Results.{ModuleResults}
 use Rattle.pipsmake_base.specs.loop_marker.Phases.{phases_of}
+use Rattle.pipsmake_base.specs.result_lines.ShownMarks.{shown_numbers}
 use Rattle.laws_programs.specs.roundtrip_programs.Statements.Formed.{Each}
 use Rattle.laws_programs.specs.roundtrip_programs.ModuleTexts.Folded.{folded}
 use Rattle.laws_programs.specs.roundtrip_programs.ModuleTexts.Numbered.{last_in, IsWell}
-use Rattle.laws_lines.specs.Marks.Marked.{loops_in}
+use Rattle.laws_lines.specs.Marks.Marked.{loops_in, functions_of}
 use Rattle.laws_lines.specs.Marks.MarkedLoops.{name_in, directives_found}
 use Rattle.laws_lines.proofs.Marks.MarkNumbers.{Rise, loops_rise}
 use Rattle.laws_lines.proofs.Marks.ByNumber.{directive_is_found}
@@ -75,7 +75,7 @@ value_there ms k a b m h e = at (nat_eq m.id 0) refl
 -- the DO with this number in the module of this name is parallel, with these names of its private variables
 abbrev pub IsFoundMark : List ModuleResults → List ℕ → ℕ → List (List ℕ) → Type 0
 IsFoundMark fs x n xs =
-    (f : ModuleResults) × In f fs × (name_in f ≡ x) × ((ns : List ℕ) × (value_at f.marks n ≡ Some (Parallel ns)) × (xs ≡ map (name_at (symbol_names f.known.symbols)) ns))
+    (f : ModuleResults) × In f fs × (name_in f ≡ x) × ((ns : List ℕ) × (value_at f.marks n ≡ Some (Parallel ns)) × (xs ≡ map (name_at (symbol_names f.known.symbols)) (shown_numbers f.known.read (symbol_names f.known.symbols) ns) ++ functions_of f.known.read n))
 
 -- its marks are those of its DO statements
 record AreLoops (f : ModuleResults) : Type 0 where

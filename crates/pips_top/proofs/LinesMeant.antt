@@ -1,6 +1,5 @@
 -- The lines that are added to a module are those of its analysis, and each is read as what that has there.
-use Rattle.std.proofs.Common.{◌≡◌, ℕ, Some, refl, sym, subst}
-use Rattle.std.specs.Prelude.{slice_get}
+use Rattle.std.proofs.Common.{refl, sym, subst}
 use Rattle.f77_meaning.specs.Modules.{known_of, symbol_names}
 use Rattle.pipsmake_base.specs.module_phases.ScalarPhases.{analyses}
 use Rattle.pipsmake_base.specs.module_phases.RegionPhases.{ModuleRegions, all_regions}
@@ -8,6 +7,8 @@ use Rattle.pipsmake_base.specs.module_phases.InPhases.{all_ins}
 use Rattle.pipsmake_base.specs.module_phases.OutPhases.{all_outs}
 use Rattle.pipsmake_base.specs.loop_marker.Results.{ModuleResults}
 use Rattle.pipsmake_base.specs.loop_marker.Phases.{phases_of, analysis_in, all_marks}
+use Rattle.pipsmake_base.specs.privatizer.Functions.{module_functions}
+use Rattle.pipsmake_base.specs.result_lines.ShownMarks.{marks_without, shown_marks}
 use Rattle.laws_analyses.specs.Laws.{AnalysesAreWhole}
 use Rattle.laws_programs.specs.Layout.Laws.{BlocksHaveAChain}
 use Rattle.laws_programs.proofs.Sources.{all_built}
@@ -28,7 +29,7 @@ use Rattle.pipsmake_base.specs.result_lines.declared.show.Show.{Show}
 use Rattle.pips_top.proofs.BlockNames.{modules_plain}
 use Rattle.pips_top.proofs.LinesFound.{lines_in}
 use Rattle.pips_top.proofs.Programs.{is_program, each_at}
-use Rattle.pips_top.proofs.MarkNames.{MarksNamed, found_named, marks_read}
+use Rattle.pips_top.proofs.MarkNames.{MarksNamed, found_named, all_without_named, marks_read}
 use Rattle.pips_top.proofs.ModulesSaid.{Once, own_found}
 use Rattle.pips_top.proofs.Said.{regions_at, said_at, ins_at, outs_at, marks_are, said_once}
 use Rattle.laws_lines.proofs.ProgramLines.{HasNames}
@@ -36,7 +37,7 @@ use Rattle.fx_lists.proofs.Every.{every_at}
 
 -- the lines of a module
 lines_read : (show : Show) (f : ModuleResults) → LinesMeanResults (analysis_in (phases_of f)) → RegionLinesMean (phases_of f).known.known → InLinesMean (phases_of f).known → OutLinesMean (phases_of f)
-    → AreMarksRead (symbol_names f.known.symbols) f.marks → AreRead show f (lines_in show f)
+    → AreMarksRead (symbol_names f.known.symbols) (shown_marks f.known.read (symbol_names f.known.symbols) f.marks) → AreRead show f (lines_in show f)
 lines_read show f on_scalars on_regions on_ins on_outs on_marks = record { parts = refl; scalars = on_scalars; regions = on_regions; ins = on_ins; outs = on_outs; marks = on_marks }
 
 pub lines_from : AnalysesAreWhole → AnalysesAreReadBack → NamesAreWords → BlocksHaveAChain → RegionLinesMeanRegions → InLinesMeanRegions → OutLinesMeanRegions → DirectivesReadBack → ObstaclesAreNoDirectives → ReadLinesMean
@@ -61,9 +62,10 @@ lines_from whole back words blocks on_regions on_ins on_outs directives obstacle
     let there = regions_at p.graph regions here.0 (phases_of f).known here.1 in
     let u = p.graph.untracked in
     let names = symbol_names f.known.symbols in
+    let functions = module_functions f.known.read in
     let told = every_at (ModuleTold IsPlain u) found at.0 (analysis_in (phases_of f)) (all_told IsPlain p.modules p.tables p.graph i.tables plain) at.1 in
     let fine = every_at (ModuleFine IsPlain u) regions here.0 (phases_of f).known.known (modules_fine IsPlain p.modules p.tables p.graph i.tables plain) there in
     let are = every_at (λ (r : ModuleRegions). HasNames r.analysis.found.known) regions here.0 (phases_of f).known.known (regions_with HasNames (known_of p.modules p.tables) p.graph (tables_named p.modules p.tables i.tables named)) there in
     let marks = subst (MarksNamed IsPlain names) (sym (marks_are p.graph outs j f there_is)) (found_named IsPlain u (phases_of f) f.effects told fine) in
     lines_read show f (each_at LinesMeanResults found read at.0 (analysis_in (phases_of f)) at.1) (each_at RegionLinesMean regions means here.0 (phases_of f).known.known there)
-    (each_at InLinesMean ins in_means here.0 (phases_of f).known here.1) (each_at OutLinesMean outs out_means out.0 (phases_of f) out.1) (marks_read directives obstacles IsPlain names are f.marks marks))
+    (each_at InLinesMean ins in_means here.0 (phases_of f).known here.1) (each_at OutLinesMean outs out_means out.0 (phases_of f) out.1) (marks_read directives obstacles IsPlain names are (marks_without functions names f.marks) (all_without_named functions names IsPlain f.marks marks)))

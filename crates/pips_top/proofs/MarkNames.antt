@@ -25,11 +25,12 @@ use Rattle.f77_ast.specs.declared.marks.Reason.TheVariants.{Jump, InputOutput, S
 use Rattle.f77_ast.specs.declared.marks.Mark.{Mark}
 use Rattle.f77_ast.specs.declared.marks.Mark.TheVariants.{Parallel, Serial}
 use Rattle.in_out_regions.specs.region_sets.Lists.{accesses_at, list_regions}
+use Rattle.pipsmake_base.specs.privatizer.Functions.{is_one_of, own_functions}
 use Rattle.pipsmake_base.specs.privatizer.Uses.{Uses}
 use Rattle.pipsmake_base.specs.loop_marker.declared.verdict.Verdict.{Verdict}
 use Rattle.pipsmake_base.specs.loop_marker.declared.verdict.Verdict.TheVariants.{Free, Copied, Bad}
 use Rattle.pipsmake_base.specs.loop_marker.Jumps.{may_jump, may_have_io, body_of}
-use Rattle.pipsmake_base.specs.loop_marker.Variables.{own_variable, index_of, the_indexes, in_order_with, indexes_in, is_write, written_in}
+use Rattle.pipsmake_base.specs.loop_marker.Variables.{own_variable, index_of, the_indexes, in_order_with, indexes_in, with_names, inner_in, is_write, written_in}
 use Rattle.pipsmake_base.specs.loop_marker.Marks.{Knowledge, index_is_bad, with_own, verdict_of, by_verdict, marked, by_variables, has_step, by_index, by_step, by_io, mark_of, the_marks, marks_of}
 use Rattle.pipsmake_base.specs.loop_marker.Known.{knowledge_of}
 use Rattle.pipsmake_base.specs.module_phases.OutPhases.{ModuleOuts}
@@ -43,6 +44,8 @@ use Rattle.laws_programs.specs.roundtrip_programs.Statements.Formed.{Each}
 use Rattle.laws_programs.proofs.RoundtripPrograms.ModuleTexts.Kept.{Each-append}
 use Rattle.laws_programs.specs.roundtrip_programs.Lines.{IsShown}
 use Rattle.laws_lines.specs.RegionTexts.Laws.{IsShownVariable}
+use Rattle.pipsmake_base.specs.result_lines.ShownMarks.{numbers_without, mark_without, marks_without}
+use Rattle.system_text.specs.SystemText.{name_at}
 use Rattle.system_text.specs.Printed.{IsNumber, AreNumbers, AreNames}
 use Rattle.laws_lines.specs.Marks.Lines.{IsShownMark, AreShownMarks}
 use Rattle.laws_lines.specs.Marks.Laws.{DirectivesReadBack, ObstaclesAreNoDirectives}
@@ -167,6 +170,13 @@ module _ (Word : List ℕ → Type 0) (names : List (List ℕ)) where
         end = tt;
       }) list)
 
+  -- and so are functions
+  with_names_named : (so_far : List Variable) (xs : List (List ℕ)) → AreN so_far → AreN (with_names names so_far xs)
+  with_names_named so_far [] h = h
+  with_names_named so_far (x ∷ xs) h =
+      let o = number_from 1 names x in
+      with_names_named (union so_far (own_variable o)) xs (union_named so_far (own_variable o) h (own_named o (λ n e. named_number names x n e)))
+
   abbrev RegionsNamed : List Region → Type 0
   RegionsNamed rs = Each (λ (r : Region). N r.variable) rs
 
@@ -211,14 +221,15 @@ module _ (Word : List ℕ → Type 0) (names : List (List ℕ)) where
         (choice_named (index_is_bad k b u l) (Serial Index) (by_variables k b u l inner) tt
         (marked_named (verdict_of k b u l inner) [] (union inner (written_in b.regions)) tt (union_named inner (written_in b.regions) h (written_named b.regions (told l))))) tt
 
-    inner_named : (list : StmtTrees) → AreN (indexes_in k.names list)
-    inner_named list = subst (λ (ns : List (List ℕ)). AreN (indexes_in ns list)) own (indexes_named list)
+    inner_named : (l : LoopTree) → AreN (inner_in k.names k.tree l)
+    inner_named l =
+        subst (λ (ns : List (List ℕ)). AreN (inner_in ns k.tree l)) own (with_names_named (indexes_in names (body_of l)) (own_functions k.tree (body_of l)) (indexes_named (body_of l)))
 
     mark_named : (n : ℕ) (label : Option ℕ) (l : LoopTree) → MarkNamed (mark_of k n label l)
     mark_named n label l =
-        let step = by_step k (k.body l) (k.uses n l) l (indexes_in k.names (body_of l)) in
+        let step = by_step k (k.body l) (k.uses n l) l (inner_in k.names k.tree l) in
         choice_named (may_jump k.tree.body k.effects label l) (Serial Jump) (by_io k n l) tt
-        (choice_named (may_have_io k.effects (body_of l)) (Serial InputOutput) step tt (by_step_named l (k.uses n l) (indexes_in k.names (body_of l)) (inner_named (body_of l))))
+        (choice_named (may_have_io k.effects (body_of l)) (Serial InputOutput) step tt (by_step_named l (k.uses n l) (inner_in k.names k.tree l) (inner_named l)))
 
     marks_named : MarksNamed (marks_of k)
     marks_named =
@@ -235,6 +246,25 @@ module _ (Word : List ℕ → Type 0) (names : List (List ℕ)) where
           more = λ xs ys h i. Each-append P xs ys h i;
           end = tt;
         }) k.tree.body
+
+-- ---- without functions
+
+module _ (functions names : List (List ℕ)) where
+  number_choice : (b : Bool) (n : ℕ) (ns : List ℕ) → IsNumber names n → AreNumbers names ns → AreNumbers names (if b then ns else n ∷ ns)
+  number_choice true n ns h k = k
+  number_choice false n ns h k = (h, k)
+
+  numbers_named : (ns : List ℕ) → AreNumbers names ns → AreNumbers names (numbers_without functions names ns)
+  numbers_named [] h = tt
+  numbers_named (n ∷ ns) h = number_choice (is_one_of functions (name_at names n)) n (numbers_without functions names ns) h.0 (numbers_named ns h.1)
+
+  without_named : (Word : List ℕ → Type 0) (m : Mark) → MarkNamed Word names m → MarkNamed Word names (mark_without functions names m)
+  without_named Word (Parallel ns) h = numbers_named ns h
+  without_named Word (Serial r) h = h
+
+  pub all_without_named : (Word : List ℕ → Type 0) (ms : List (At Mark)) → MarksNamed Word names ms → MarksNamed Word names (marks_without functions names ms)
+  all_without_named Word [] h = tt
+  all_without_named Word (m ∷ ms) h = record { first = without_named Word m.value h.first; others = all_without_named Word ms h.others }
 
 -- ---- modules
 

@@ -1,5 +1,6 @@
 -- What is written of a program that was read is read, with its directives, as that program with its parallel loops marked.
-use Rattle.std.proofs.Common.{◌≡◌, ℕ, List, map, Option, Some, None, refl, sym, ap, ◌∙◌, subst}
+use Rattle.std.proofs.Common.{◌≡◌, ℕ, zero, suc, List, [], ◌∷◌, map, Option, Some, None, refl, sym, ap, ap₂, ◌∙◌, subst}
+use Rattle.std.specs.Prelude.{slice_get}
 use Rattle.std.proofs.Math.Path.{fun_ext}
 use Rattle.f77_ast.specs.DeclTrees.{ParsedTree}
 use Rattle.f77_printer.specs.declared.added.Added.{Added}
@@ -9,7 +10,7 @@ use Rattle.laws_programs.specs.roundtrip_programs.Texts.Texts as back
 use Rattle.laws_programs.specs.roundtrip_programs.Texts.Laws.{AllPassedOver}
 use Rattle.laws_programs.specs.roundtrip_programs.Lines.{LinesArePassedOver}
 use Rattle.laws_programs.specs.roundtrip_programs.Programs.{NamesAreShown}
-use Rattle.laws_lines.specs.Marks.Marked.{ReadMarked}
+use Rattle.laws_lines.specs.Marks.Marked.{with_functions, ReadMarked}
 use Rattle.laws_lines.specs.Marks.MarkedLoops.{parallel_in}
 use Rattle.laws_lines.specs.Marks.Laws.{MarkLinesArePassedOver}
 use Rattle.laws_lines.specs.Marks.WholeLaws.{with_marks, MarksReadBack}
@@ -33,12 +34,12 @@ use Rattle.pips_top.proofs.Programs.{is_program}
 use Rattle.pips_top.proofs.BlockNames.{modules_shown}
 use Rattle.pips_top.proofs.AddedLines.{all_said, all_over}
 use Rattle.pips_top.proofs.ReadBack.{is_read, text_same}
-use Rattle.pips_top.proofs.Marking.{names_of, marks_of, shows_why, others_of, lines_parts, all_marked}
+use Rattle.pips_top.proofs.Marking.{names_of, marks_of, shows_why, others_of, lines_parts, loops_at, all_marked}
 use Rattle.pips_top.proofs.DirectivesFound.{directives_are}
 
-loops_parts : (o : Option ModuleResults) → parallel_in (names_of o) (marks_of o) ≡ loops_of o
-loops_parts None = refl
-loops_parts (Some f) = refl
+map_same : {A B : Type 0} (f g : A → B) (xs : List A) → ((i : ℕ) (x : A) → slice_get xs i ≡ Some x → f x ≡ g x) → map f xs ≡ map g xs
+map_same f g [] h = refl
+map_same f g (x ∷ xs) h = ap₂ (λ y ys. y ∷ ys) (h zero x refl) (map_same f g xs (λ i y e. h (suc i) y e))
 
 module _ (show : Show) (p : ProgramTree) where
   abbrev found : ParsedTree → Option ModuleResults
@@ -59,8 +60,9 @@ module _ (show : Show) (p : ProgramTree) where
   parts_text : back.modules_text parts p.modules ≡ written show p
   parts_text = sym (text_same show (results_of_program p) p.modules ∙ ap (λ (a : ParsedTree → List Added). back.modules_text a p.modules) added_same)
 
-  parts_loops : map (λ (m : ParsedTree). parallel_in (names_of (found m)) (marks_of (found m))) p.modules ≡ loops_found p
-  parts_loops = ap (λ (h : ParsedTree → List (At (List (List ℕ)))). map h p.modules) (fun_ext (λ m. loops_parts (found m)))
+  -- the marks of a module as they are read
+  abbrev loops_read : ParsedTree → List (At (List (List ℕ)))
+  loops_read m = with_functions m.module_read (parallel_in (names_of (found m)) (marks_of (found m)))
 
 pub marked_from : MarksReadBack → AnalysesAreWhole → NamesAreWords → LinesArePassedOver → AllRegionLinesPass → AllInLinesPass → AllOutLinesPass → MarkLinesArePassedOver → NamesAreShown → BlocksHaveAChain → ReadWrittenBack → ReadMarkedBack
 marked_from law whole words lines on_regions on_ins on_outs on_marks names blocks back show bytes p e =
@@ -74,8 +76,9 @@ marked_from law whole words lines on_regions on_ins on_outs on_marks names block
     (parts_over show p (all_over lines show (results_of_program p) said p.modules)) (all_marked p show all i.tables built are said) in
     let b = back show bytes p e in
     let q = b.0 in
-    let text = subst (λ t. ReadMarked t m.again (map (λ (n : ParsedTree). parallel_in (names_of (found show p n)) (marks_of (found show p n))) p.modules)) (parts_text show p) m.read in
-    let loops = subst (λ ls. ReadMarked (written show p) m.again ls) (parts_loops show p) text in
+    let text = subst (λ t. ReadMarked t m.again (map (loops_read show p) p.modules)) (parts_text show p) m.read in
+    let parts_loops : map (loops_read show p) p.modules ≡ loops_found p = map_same (loops_read show p) (λ n. loops_of (found show p n)) p.modules (loops_at p show all i.tables built are said) in
+    let loops = subst (λ ls. ReadMarked (written show p) m.again ls) parts_loops text in
     let one = one_reading (written show p) m.again q.modules loops.read (is_read (written show p) q b.1).read in
     record {
       again = q;

@@ -17,14 +17,17 @@ use Rattle.f77_ast.specs.declared.marks.Mark.{Mark}
 use Rattle.f77_ast.specs.declared.marks.Mark.TheVariants.{Parallel, Serial}
 use Rattle.pipsmake_base.specs.loop_marker.Known.{knowledge_of}
 use Rattle.pipsmake_base.specs.loop_marker.Marks.{mark_of}
+use Rattle.pipsmake_base.specs.privatizer.Functions.{module_functions}
 use Rattle.pipsmake_base.specs.result_lines.MarkLines.{mark_lines_of}
+use Rattle.pipsmake_base.specs.result_lines.ShownMarks.{marks_without, shown_marks}
 use Rattle.pipsmake_base.specs.loop_marker.Results.{ModuleResults}
 use Rattle.pipsmake_base.specs.loop_marker.Phases.{phases_of, analysis_in, known_in, marks_found}
 use Rattle.laws_programs.specs.roundtrip_programs.Statements.Formed.{Each}
 use Rattle.laws_programs.specs.roundtrip_programs.ModuleTexts.Numbered.{IsWell}
 use Rattle.laws_programs.specs.roundtrip_programs.Lines.{IsShown, AreShown}
 use Rattle.system_text.specs.Printed.{AreNames}
-use Rattle.laws_lines.specs.Marks.Marked.{loops_in}
+use Rattle.laws_lines.specs.Marks.Marked.{loops_in, with_functions}
+use Rattle.laws_lines.specs.Marks.MarkedLoops.{parallel_in}
 use Rattle.laws_lines.specs.Marks.Lines.{IsNumberedMark, AreNumberedMarks}
 use Rattle.laws_lines.specs.Marks.WholeLaws.{IsMarking, IsMarked}
 use Rattle.laws_lines.proofs.Marks.MarkNumbers.{marks_numbers}
@@ -34,11 +37,12 @@ use Rattle.laws_analyses.specs.Coverage.{AreWhole}
 use Rattle.pips_top.specs.Program.{ProgramTree}
 use Rattle.pipsmake_base.specs.pipsmake_meaning.ResultEntries.{results_for}
 use Rattle.pipsmake_base.specs.laws_database.ProgramTexts.{lines_with}
+use Rattle.pips_top.specs.MarkedText.{loops_of}
 use Rattle.pips_top.specs.Shown.{results_of_program}
 use Rattle.pipsmake_base.specs.result_lines.declared.show.Show.{Show}
 use Rattle.pipsmake_base.specs.result_lines.declared.show.Show.TheVariants.{All, Bare, Why}
 use Rattle.pips_top.proofs.LinesFound.{claims_found}
-use Rattle.pips_top.proofs.MarkNames.{MarkNamed, MarksNamed}
+use Rattle.pips_top.proofs.MarkNames.{MarkNamed, MarksNamed, all_without_named}
 use Rattle.pips_top.proofs.ClaimsPlain.{ArePlain, claims_plain}
 use Rattle.pips_top.proofs.Said.{marks_are}
 use Rattle.pips_top.proofs.ModulesSaid.{IsOwn, each_own, known_there}
@@ -55,7 +59,7 @@ names_of (Some f) = symbol_names f.known.symbols
 
 abbrev pub marks_of : Option ModuleResults → List (At Mark)
 marks_of None = []
-marks_of (Some f) = f.marks
+marks_of (Some f) = shown_marks f.known.read (symbol_names f.known.symbols) f.marks
 
 abbrev pub shows_why : Show → Bool
 shows_why All = true
@@ -91,6 +95,11 @@ found_numbers u f e w =
     let k = known_in f in
     let a = analysis_in f in
     marks_numbers (mark_of (knowledge_of k.read k.symbols (symbol_names k.symbols) (scope_of u k) e.at a.found.own.at a.holds.at f.known.known.regions.at f.known.ins.at f.outs.at)) k.read w
+
+-- their numbers are the same without functions
+without_numbers : (functions names : List (List ℕ)) (ms : List (At Mark)) → numbers (marks_without functions names ms) ≡ numbers ms
+without_numbers functions names [] = refl
+without_numbers functions names (m ∷ ms) = ap (λ (ns : List ℕ). m.id ∷ ns) (without_numbers functions names ms)
 
 numbered_mark : (names : List (List ℕ)) (v : Mark) → MarkNamed IsShown names v → IsNumberedMark names v
 numbered_mark names (Parallel ns) h = h
@@ -130,6 +139,7 @@ module _ (p : ProgramTree) (show : Show) (whole : AreWhole (known_of p.modules p
       let f = own.found in
       let b = got IsBuilt p.modules i m built e in
       let names = symbol_names f.known.symbols in
+      let functions = module_functions f.known.read in
       let is = got IsSaid (results_of_program p) own.place f said own.there in
       let read : m.module_read ≡ f.known.read = ap (λ (x : Known). x.read) (sym own.known) in
       let found = marks_are p.graph outs own.place f own.there in
@@ -137,7 +147,10 @@ module _ (p : ProgramTree) (show : Show) (whole : AreWhole (known_of p.modules p
       let here : IsGood show m.module_read (Some f) = record {
         named = subst HasNames (sym own.known) (every_at HasNames ks i this are k);
         shown = is.names;
-        marking = record { each = ap numbers found ∙ count ∙ ap (λ (t : ModuleTree). loops_in t.body) (sym read); numbered = numbered names f.marks is.named };
+        marking = record {
+          each = without_numbers functions names f.marks ∙ ap numbers found ∙ count ∙ ap (λ (t : ModuleTree). loops_in t.body) (sym read);
+          numbered = numbered names (marks_without functions names f.marks) (all_without_named functions names IsShown f.marks is.named);
+        };
       } in
       subst (IsGood show m.module_read) (sym own.own) here
 
@@ -155,6 +168,17 @@ module _ (p : ProgramTree) (show : Show) (whole : AreWhole (known_of p.modules p
       let t = known_there p.modules p.tables i m tables e in
       let g = good_at i m t.0 e t.1 (each_own p whole i (record { read = m.module_read; symbols = t.0 }) t.1) in
       record { named = g.named; shown = g.shown; marking = g.marking; plain = others_plain show (results_for (results_of_program p) m.module_read.name) }
+
+  -- with the functions of which its loops take values they are the parallel loops that were found
+  pub loops_at : (i : ℕ) (m : ParsedTree) → slice_get p.modules i ≡ Some m → with_functions m.module_read (parallel_in (names m) (marks m)) ≡ loops_of (results_for (results_of_program p) m.module_read.name)
+  loops_at i m e =
+      let t = known_there p.modules p.tables i m tables e in
+      let own = each_own p whole i (record { read = m.module_read; symbols = t.0 }) t.1 in
+      let f = own.found in
+      let read : m.module_read ≡ f.known.read = ap (λ (x : Known). x.read) (sym own.known) in
+      ap (λ (o : Option ModuleResults). with_functions m.module_read (parallel_in (names_of o) (marks_of o))) own.own
+      ∙ ap (λ (r : ModuleTree). with_functions r (parallel_in (names_of (Some f)) (marks_of (Some f)))) read
+      ∙ ap loops_of (sym own.own)
 
   pub all_marked : Each (IsMarked names marks others) p.modules
   all_marked = each_from (IsMarked names marks others) p.modules marked_at

@@ -1,5 +1,5 @@
 -- One part after another.
-use Rattle.std.proofs.Common.{◌≡◌, ℕ, suc, ◌+◌, List, ◌++◌, append_assoc, append-nil, add-one, ap, sym, ◌∙◌}
+use Rattle.std.proofs.Common.{◌≡◌, ℕ, ◌+◌, List, ◌++◌, append_assoc, append-nil, add-one, ap, sym, ◌∙◌}
 use Rattle.pips_top.specs.Sample.{part, parts_to}
 
 -- one part more

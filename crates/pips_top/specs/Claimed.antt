@@ -9,6 +9,7 @@ use Rattle.pipsmake_base.specs.module_phases.ScalarPhases.{scope_of}
 use Rattle.pipsmake_base.specs.loop_marker.Results.{ModuleResults}
 use Rattle.pipsmake_base.specs.pipsmake_meaning.Definitions.{printed_of}
 use Rattle.pipsmake_base.specs.result_lines.Lines.{scalar_lines_of, region_lines_of, lines_of}
+use Rattle.pipsmake_base.specs.result_lines.ShownMarks.{shown_marks}
 use Rattle.laws_analyses.specs.Claims.{AnalysisHolds}
 use Rattle.laws_lines.specs.Lines.{EachMeans}
 use Rattle.laws_analyses.specs.Regions.Claims.{RegionsHold}
@@ -63,14 +64,14 @@ SaysAll p = AreCovered (known_of p.modules p.tables) (results_of_program p)
 -- ---- lines
 
 -- lines are those of a module; each claim is read, by the names of the symbols, as just what was found there: a precondition, a transformer or, where no symbol is named PHI1 to PHI7, a region,
--- whose line says of all its systems together that rows were lost; there is one line for each region of a DO or a CALL and of the entry; each directive is read as the names of its private variables
+-- whose line says of all its systems together that rows were lost; there is one line for each region of a DO or a CALL and of the entry; each directive is read as the names of its private variables, without those of functions of which the module takes values
 pub record AreRead (show : Show) (f : ModuleResults) (lines : List Added) : Type 0 where
   pub parts : lines ≡ lines_of show f.known (printed_of f)
   pub scalars : EachMeans (scalars_said f) (scalar_lines_of f.known f.transformers f.preconditions)
   pub regions : AreRegionLines f.known f.regions (region_lines_of f.known f.regions)
   pub ins : AreRegionLines f.known f.ins (region_lines_of f.known f.ins)
   pub outs : AreRegionLines f.known f.outs (region_lines_of f.known f.outs)
-  pub marks : AreMarksRead (symbol_names f.known.symbols) f.marks
+  pub marks : AreMarksRead (symbol_names f.known.symbols) (shown_marks f.known.read (symbol_names f.known.symbols) f.marks)
 
 -- and each line that is added to a module is one of these
 abbrev pub LinesMean : Show → ProgramTree → Type 0

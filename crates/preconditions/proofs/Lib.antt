@@ -4,5 +4,6 @@ pub use Rattle.transformers.proofs as Transformers
 pub mod Steps
 pub mod StatementLaws
 pub mod WalkLaws
+pub mod WhileLaws
 pub mod Copies
 pub mod Shared

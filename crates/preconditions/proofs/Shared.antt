@@ -1,5 +1,5 @@
 -- Lemmas that several crates use.
-use Rattle.std.proofs.Common.{List, Option, Some, ap, subst, sym, ℕ, ◌-◌, ◌∙◌, ◌≡◌, Bool, true, false, [], ◌∷◌, None, nat_eq, arith, suc, ◌+◌, ◌<◌}
+use Rattle.std.proofs.Common.{List, Option, Some, ap, subst, sym, ℕ, ◌-◌, ◌∙◌, ◌≡◌, Bool, true, false, [], ◌∷◌, None, nat_eq, arith, suc}
 use Rattle.affine_systems.specs.Given.{Fits}
 use Rattle.affine_systems.specs.declared.row.System.{System}
 use Rattle.f77_ast.specs.declared.results.At.{At}

@@ -14,7 +14,8 @@ use Rattle.transformers.specs.call_translation.Scopes.{ScopeTree}
 use Rattle.transformers.specs.Given.{ResultsFit}
 use Rattle.transformers.specs.Jumps.{unstructured}
 use Rattle.transformers.specs.Lists.{first_at, or_first, value_at, or_unchanging, transformer_at}
-use Rattle.preconditions.specs.Statement.{PreconditionList, after_each, after_list, throughout, at_each, at_all, at_list}
+use Rattle.preconditions.specs.Statement.{PreconditionList, after_each, before_last, after_list, throughout, at_each, at_all, at_list}
+use Rattle.preconditions.specs.WhileParts.{last_begins}
 
 pub ruleset part_calls = (what_calls, append_assoc, append-nil, All-push)
 
@@ -32,6 +33,15 @@ at_any whole body m t p e = ap (λ b. if b then at_all body m t (throughout whol
 
 pub at_order : (whole : Bool) (body : StmtTrees) (m : ScopeTree) (t : PreconditionList) (p : System) → unstructured whole body ≡ false → at_list whole body m t p ≡ at_each body m t p
 at_order whole body m t p e = ap (λ b. if b then at_all body m t (throughout whole body t p) else at_each body m t p) e
+
+-- where the last statement of a list begins
+pub last_any : (body : StmtTrees) (m : ScopeTree) (t : PreconditionList) (p : System) → unstructured false body ≡ true → last_begins body m t p ≡ throughout false body t p
+last_any body m t p e = ap (λ b. if b then throughout false body t p else before_last body m t p) e
+
+pub last_order : (body : StmtTrees) (m : ScopeTree) (t : PreconditionList) (p : System) → unstructured false body ≡ false → last_begins body m t p ≡ before_last body m t p
+last_order body m t p e = ap (λ b. if b then throughout false body t p else before_last body m t p) e
+
+pub ruleset last_cases = (list_calls, last_any, last_order, at_any, at_order)
 
 pub ruleset list_cases = (list_calls, after_any, after_order, at_any, at_order)
 

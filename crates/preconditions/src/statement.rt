@@ -1,25 +1,29 @@
 //! What holds of the tracked cells where statements begin and after their normal ends.
-ghost use Rattle.std.specs.Prelude.{◌≡◌, [], ◌∷◌, ◌++◌, IfOk, OnOk};
+ghost use Rattle.std.specs.Prelude.{◌≡◌, false, [], ◌∷◌, ◌++◌, if◌then◌else◌, IfOk, OnOk};
 ghost use Rattle.affine_systems.specs.Given.{Fits};
 ghost use Rattle.f77_ast.specs.Plain.{expr_tree};
-ghost use Rattle.f77_ast.specs.PlainStmt.{stmt_tree, stmt_trees, what_tree, loop_tree, arm_trees};
+ghost use Rattle.f77_ast.specs.PlainStmt.{stmt_tree, stmt_trees, what_tree, loop_tree, arm_tree, arm_trees};
 ghost use Rattle.hull_projection.specs.Hull.{hull};
 ghost use Rattle.transformers.specs.transformer_algebra.Transformers.{apply};
 ghost use Rattle.transformers.specs.Statement.{at as at_is};
-ghost use Rattle.preconditions.specs.Statement.{after as after_is, after_what as after_what_is, after_each as after_each_is, after_list as after_list_is, after_arms as after_arms_is, after_loop_of, past_arms, if_true, if_false, hull_from, some_holds as some_holds_is, throughout as throughout_is, at_stmt, at_parts, at_each, at_all, at_list, at_arms, at_loop, AllFit, EachFits};
+ghost use Rattle.transformers.specs.WhileParts.{arm_while};
+ghost use Rattle.preconditions.specs.Statement.{after as after_is, after_what as after_what_is, after_each as after_each_is, after_list as after_list_is, after_arms as after_arms_is, after_arm_list as after_arm_list_is, goto_of_arm, before_last as before_last_is, after_loop_of, past_arms, if_true, if_false as if_false_is, each_while as each_while_is, while_done as while_done_is, hull_from, some_holds as some_holds_is, throughout as throughout_is, at_stmt, at_parts, at_each, at_all, at_list, at_arms, at_arm_list, at_loop, AllFit, EachFits};
+ghost use Rattle.preconditions.specs.WhileParts.{last_begins as last_begins_is, at_while};
 ghost use Rattle.preconditions.specs.Known.{scope_in, found_in, KnownFits};
 
 use affine_forms::{condition_of, infeasible};
 use affine_systems::{System, meet};
 use f77_ast::{Arm, At, Expr, Loop, Stmt, StmtId, What};
 use fx_lists::List;
-use hull_projection::hull;
+use hull_projection::{clean, hull};
 use std::alloc::{AllocError as Memory, Global};
 use transformers::call_translation::CellScope;
 use transformers::transformer_algebra::{
-    Transformer, after_loop, apply, at_iteration, identity_transformer, iteration, without,
+    Transformer, after_loop, apply, at_iteration, identity_transformer, iterate, iteration, without,
 };
-use transformers::{is_unstructured, list_at, loop_parts, value_at};
+use transformers::{
+    each_at, is_end, is_unstructured, list_at, loop_parts, value_at, while_in, while_iteration,
+};
 
 /// What is known around a statement: the scope of its module, and the transformers of the statements.
 #[derive(Drop)]
@@ -67,7 +71,7 @@ fn both_sides(
 ) -> Result<Sides, Memory>
     requires { Fits p.now }
     ensures yes { IfOk result (λ r. r.yes ≡ if_true (scope_in known.now) (expr_tree test.now) p.now) }
-    ensures no { IfOk result (λ r. r.no ≡ if_false (scope_in known.now) (expr_tree test.now) p.now) }
+    ensures no { IfOk result (λ r. r.no ≡ if_false_is (scope_in known.now) (expr_tree test.now) p.now) }
     ensures fits { IfOk result (λ r. Fits r.yes × Fits r.no) }
 {
     let condition = condition_of(alloc, known.scope.symbols, known.scope.tracked, test)?;
@@ -152,6 +156,70 @@ fn throughout(
 {
     let t = list_at(alloc, list, whole, known.own)?;
     without(alloc, t.cells.as_slice(), p)
+}
+
+/// Where the test of a DO WHILE comes next, where `p` holds before the DO WHILE; `arm` has its test and its statements, with the GO TO.
+#[tactic(auto, using(f77_ast::proofs::PlainlyStmt::read_structs))]
+fn each_while(
+    alloc: Global,
+    known: &PreconditionContext<'_>,
+    arm: &Arm,
+    p: &System,
+) -> Result<System, Memory>
+    requires known { KnownFits known.now }
+    requires before { Fits p.now }
+    ensures defined { IfOk result (λ q. q ≡ each_while_is (arm_while (arm_tree arm.now)) (scope_in known.now) (found_in known.now) p.now) }
+    ensures fits { IfOk result Fits }
+{
+    let all = each_at(alloc, &arm.body, known.own)?;
+    let once = while_iteration(alloc, known.scope, arm, all.as_slice())?;
+    let any = iterate(alloc, &once)?;
+    let each = apply(alloc, &any, p)?;
+    clean(alloc, &each)
+}
+
+/// Where a test is false.
+fn if_false(
+    alloc: Global,
+    known: &PreconditionContext<'_>,
+    test: &Expr,
+    p: &System,
+) -> Result<System, Memory>
+    requires { Fits p.now }
+    ensures defined { IfOk result (λ q. q ≡ if_false_is (scope_in known.now) (expr_tree test.now) p.now) }
+    ensures fits { IfOk result Fits }
+{
+    let condition = condition_of(alloc, known.scope.symbols, known.scope.tracked, test)?;
+    meet(alloc, p, &condition.no)
+}
+
+/// After a DO WHILE, where `p` holds before it and `q` at its GO TO.
+#[tactic(auto, using(f77_ast::proofs::PlainlyStmt::read_structs))]
+fn while_done(
+    alloc: Global,
+    known: &PreconditionContext<'_>,
+    arm: &Arm,
+    p: &System,
+    q: &System,
+) -> Result<System, Memory>
+    requires before { Fits p.now }
+    requires goto { Fits q.now }
+    ensures defined { IfOk result (λ r. r ≡ while_done_is (arm_while (arm_tree arm.now)) (scope_in known.now) p.now q.now) }
+    ensures fits { IfOk result Fits }
+{
+    let none = if_false(alloc, known, &arm.test, p)?;
+    let some = if_false(alloc, known, &arm.test, q)?;
+    hull(alloc, &none, &some)
+}
+
+/// The first of two systems where there is no statement more, else the second.
+fn unless_last(last: bool, before: System, after: System) -> System
+    requires before { Fits before }
+    requires after { Fits after }
+    ensures defined { result ≡ (if last then before else after) }
+    ensures fits { Fits result }
+{
+    if last { before } else { after }
 }
 
 /// After a statement, where `p` holds before. What holds where it and its parts begin is added to what was found.
@@ -302,6 +370,111 @@ fn after_each(
     Ok(holds)
 }
 
+/// What holds where the last of statements one after another begins. What holds in all of them is added to what was found.
+#[cycle(preconditions)]
+#[tactic(auto, using(crate::proofs::StatementLaws::statement_calls))]
+fn before_last(
+    alloc: Global,
+    known: &PreconditionContext<'_>,
+    list: &List<Stmt>,
+    p: System,
+    at: &mut PreconditionList,
+) -> Result<System, Memory>
+    requires known { KnownFits known.now }
+    requires before { Fits p }
+    requires found { EachFits at.old }
+    ensures defined { IfOk result (λ q. q ≡ before_last_is (stmt_trees list.now) (scope_in known.now) (found_in known.now) p) }
+    ensures fits { IfOk result Fits }
+    ensures added { IfOk result (λ _. at.new ≡ at.old ++ at_each (stmt_trees list.now) (scope_in known.now) (found_in known.now) p) }
+    ensures results_fit { IfOk result (λ _. EachFits at.new) }
+{
+    let mut holds = p;
+    let statements = list.as_slice();
+    for (place, s) in statements.iter().enumerate() {
+        let before = copy_system(&holds)?;
+        let end = after(alloc, known, s, before, at)?;
+        holds = unless_last(is_end(&statements[place + 1..]), holds, end);
+    }
+    Ok(holds)
+}
+
+/// What holds where the last statement of a list begins, where `p` holds before the list.
+#[cycle(preconditions)]
+#[tactic(auto, using(crate::proofs::StatementLaws::last_cases))]
+fn last_begins(
+    alloc: Global,
+    known: &PreconditionContext<'_>,
+    list: &List<Stmt>,
+    p: System,
+    at: &mut PreconditionList,
+) -> Result<System, Memory>
+    requires known { KnownFits known.now }
+    requires before { Fits p }
+    requires found { EachFits at.old }
+    ensures defined { IfOk result (λ q. q ≡ last_begins_is (stmt_trees list.now) (scope_in known.now) (found_in known.now) p) }
+    ensures fits { IfOk result Fits }
+    ensures added { IfOk result (λ _. at.new ≡ at.old ++ at_list false (stmt_trees list.now) (scope_in known.now) (found_in known.now) p) }
+    ensures results_fit { IfOk result (λ _. EachFits at.new) }
+{
+    if is_unstructured(alloc, list, false)? {
+        let all = throughout(alloc, known, list, false, &p)?;
+        at_each_the_same(alloc, known, list, &all, at)?;
+        Ok(all)
+    } else {
+        before_last(alloc, known, list, p, at)
+    }
+}
+
+/// After the list of a DO WHILE, of which these are the number and the arm of the labelled block IF.
+#[cycle(preconditions)]
+#[tactic(auto, using(crate::proofs::StatementLaws::arm_calls))]
+fn after_while(
+    alloc: Global,
+    known: &PreconditionContext<'_>,
+    id: StmtId,
+    arm: &Arm,
+    p: &System,
+    at: &mut PreconditionList,
+) -> Result<System, Memory>
+    requires known { KnownFits known.now }
+    requires before { Fits p.now }
+    requires found { EachFits at.old }
+    ensures defined { IfOk result (λ q. q ≡ while_done_is (arm_while (arm_tree arm.now)) (scope_in known.now) p.now (goto_of_arm (arm_tree arm.now) (scope_in known.now) (found_in known.now) (each_while_is (arm_while (arm_tree arm.now)) (scope_in known.now) (found_in known.now) p.now))) }
+    ensures fits { IfOk result Fits }
+    ensures added { IfOk result (λ _. at.new ≡ at.old ++ at_while id (arm_tree arm.now) (scope_in known.now) (found_in known.now) (each_while_is (arm_while (arm_tree arm.now)) (scope_in known.now) (found_in known.now) p.now)) }
+    ensures results_fit { IfOk result (λ _. EachFits at.new) }
+{
+    let each = each_while(alloc, known, arm, p)?;
+    push_found(at, id, &each)?;
+    let tests = both_sides(alloc, known, &arm.test, &each)?;
+    let end = last_begins(alloc, known, &arm.body, tests.yes, at)?;
+    while_done(alloc, known, arm, p, &end)
+}
+
+/// After the statements of an arm.
+#[cycle(preconditions)]
+#[tactic(auto, using(crate::proofs::StatementLaws::arm_calls))]
+fn after_arm_list(
+    alloc: Global,
+    known: &PreconditionContext<'_>,
+    list: &List<Stmt>,
+    p: System,
+    at: &mut PreconditionList,
+) -> Result<System, Memory>
+    requires known { KnownFits known.now }
+    requires before { Fits p }
+    requires found { EachFits at.old }
+    ensures defined { IfOk result (λ q. q ≡ after_arm_list_is (stmt_trees list.now) (scope_in known.now) (found_in known.now) p) }
+    ensures fits { IfOk result Fits }
+    ensures added { IfOk result (λ _. at.new ≡ at.old ++ at_arm_list (stmt_trees list.now) (scope_in known.now) (found_in known.now) p) }
+    ensures results_fit { IfOk result (λ _. EachFits at.new) }
+{
+    match while_in(list) {
+        None => after_list(alloc, known, list, false, p, at),
+        Some(w) => after_while(alloc, known, w.id, w.arm, &p, at),
+    }
+}
+
 /// Adds to some ends what holds after each of the arms of a block IF, with the tests above it false, and gives what holds where the
 /// tests of all are false.
 #[cycle(preconditions)]
@@ -328,7 +501,7 @@ fn after_arms(
     let mut before = p;
     for arm in arms.as_slice() {
         let tests = both_sides(alloc, known, &arm.test, &before)?;
-        let end = after_list(alloc, known, &arm.body, false, tests.yes, at)?;
+        let end = after_arm_list(alloc, known, &arm.body, tests.yes, at)?;
         ends.push(end)?;
         before = tests.no;
     }

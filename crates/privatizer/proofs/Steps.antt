@@ -1,5 +1,5 @@
 -- What is known of a DO is that of its body, and what is looked up may be handed on.
-use Rattle.std.proofs.Common.{◌≡◌, ℕ, List, ◌||◌, Bool, true, false, Option, Some, None, refl, sym, ap, ◌∙◌}
+use Rattle.std.proofs.Common.{◌≡◌, ℕ, List, ◌||◌, Bool, true, false, Option, Some, None, append_assoc, append-nil, refl, sym, ap, ◌∙◌}
 use Rattle.affine_systems.specs.declared.row.System.{System}
 use Rattle.f77_ast.specs.declared.stmt.Loop.{Loop, out-Loop}
 use Rattle.f77_ast.specs.Trees.{LoopTree}
@@ -14,6 +14,7 @@ use Rattle.in_out_regions.specs.Lists.{list_in}
 use Rattle.dependence_test.specs.Body.{head_of}
 use Rattle.privatizer.specs.Uses.{head_in, ins_in}
 use Rattle.fx_lists.proofs.Booleans.{or_here}
+use Rattle.f77_ast.proofs.WalkLaws.{shape_calls}
 
 pub head_made : (l : Loop) (ps : List (At System)) (s : System) → s ≡ head_of ps (stmt_trees (out-Loop l).body) → s ≡ head_in ps (loop_tree l)
 head_made l ps s e = e ∙ sym (ap (λ (y : LoopTree). head_in ps y) (loop_tree-out l))
@@ -36,3 +37,7 @@ found None rs t e q = cc
 found (Some s) rs t e q = cc
 
 pub ruleset sets = (found)
+
+-- ---- names that are added
+
+pub ruleset walks = (shape_calls, append_assoc, append-nil)

@@ -5,9 +5,8 @@ ghost use Rattle.f77_ast.specs.Plain.{expr_tree};
 ghost use Rattle.f77_ast.specs.PlainDecl.{decl_tree, module_tree};
 ghost use Rattle.f77_ast.specs.Symbols.{symbol_tree};
 ghost use Rattle.tracked_cells.specs.Equivalences.{item_name, item_names, group_names, decl_names};
-ghost use Rattle.privatizer.specs.Names.{is_equivalenced as is_equivalenced_is, has_other_use as has_other_use_is, is_own as is_own_is, may_copy as may_copy_is};
+ghost use Rattle.privatizer.specs.Names.{is_equivalenced as is_equivalenced_is, is_own as is_own_is, may_copy as may_copy_is};
 
-use crate::functions::is_function;
 use call_graph::{View, is_local};
 use f77_ast::{Decl, Expr, Module, Symbol, Variable};
 use fx_lists::{List, Text};
@@ -87,21 +86,14 @@ fn is_equivalenced(module: &Module, name: &Text) -> bool
     false
 }
 
-/// Whether a name is in an EQUIVALENCE of a module, or that of a function of which the module takes a value.
-fn has_other_use(module: &Module, name: &Text) -> bool
-    ensures { result ≡ has_other_use_is (module_tree «module».now) name.now }
-{
-    is_equivalenced(module, name) || is_function(module, name)
-}
-
 fn is_own(module: &Module, symbol: &Symbol) -> bool
     ensures { result ≡ is_own_is (module_tree «module».now) (symbol_tree symbol.now) }
 {
-    is_local(&symbol.place) && (!symbol.saved && !has_other_use(module, &symbol.name))
+    is_local(&symbol.place) && (!symbol.saved && !is_equivalenced(module, &symbol.name))
 }
 
 /// Whether the name of a variable allows copies of it: it is a local of the module, it is not saved or in DATA, also by another variable of its
-/// storage, it is in no EQUIVALENCE, and it is not the result of a function.
+/// storage, and it is in no EQUIVALENCE.
 pub fn may_copy(view: &View<'_>, v: &Variable) -> bool
     ensures { result ≡ may_copy_is (module_tree view.now.«module».now) (map symbol_tree view.now.symbols.now) v.now }
 {

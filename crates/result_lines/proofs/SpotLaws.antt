@@ -1,5 +1,5 @@
 -- What is known of statements and their parts, and of lists that grow.
-use Rattle.std.proofs.Common.{◌≡◌, ◌≤◌, ◌++◌, List, [], ◌∷◌, length, get_or, refl, sym, ap, ◌∙◌, append_assoc, append-nil, arith}
+use Rattle.std.proofs.Common.{◌≡◌, ◌≤◌, List, [], ◌∷◌, length, get_or, refl, sym, ap, ◌∙◌, append_assoc, append-nil, arith}
 use Rattle.f77_ast.specs.declared.stmt.Arm.{Arm, out-Arm}
 use Rattle.f77_ast.specs.Trees.{WhatTree}
 use Rattle.f77_ast.specs.Trees as tree

@@ -1,6 +1,6 @@
 -- The statements before which lines may be added: those of a list and of the parts of its statements, in the order of the text. The
 -- statement of a logical IF has no line of its own, nor has a hidden statement (f77_ast, specs/Hidden).
-use Rattle.std.specs.Prelude.{ℕ, Bool, true, false, not, List, [], ◌∷◌, ◌++◌, if◌then◌else◌}
+use Rattle.std.specs.Prelude.{ℕ, Bool, not, List, [], ◌∷◌, ◌++◌, if◌then◌else◌}
 use Rattle.f77_ast.specs.Trees.{StmtTree, WhatTree, ArmTrees, ElseTree, LoopTree, StmtTrees}
 use Rattle.f77_ast.specs.Trees as tree
 use Rattle.f77_ast.specs.Hidden.{is_hidden}

@@ -11,6 +11,7 @@ use Rattle.region_sets.specs.declared.region.Region.{Region}
 use Rattle.f77_ast.specs.declared.marks.Mark.{Mark}
 use Rattle.result_lines.specs.RegionLines as regions
 use Rattle.result_lines.specs.MarkLines as marks
+use Rattle.result_lines.specs.ShownMarks.{shown_marks}
 use Rattle.result_lines.specs.declared.show.Show.{Show}
 use Rattle.result_lines.specs.declared.show.Show.TheVariants.{All, Bare, Why}
 use Rattle.result_lines.specs.declared.lines.PrintedResults as code
@@ -39,9 +40,9 @@ region_lines_of k sets = regions.region_lines_of k.read.main k.read.body (symbol
 abbrev pub claims_of : Known → PrintedResults → List Added
 claims_of k r = scalar_lines_of k r.transformers r.preconditions ++ (region_lines_of k r.regions ++ (region_lines_of k r.ins ++ region_lines_of k r.outs))
 
--- the directives of its parallel loops and, where `why` says so, the obstacles of the others
+-- the directives of its parallel loops, without the names of functions, and, where `why` says so, the obstacles of the others
 abbrev pub mark_lines_of : Known → Bool → List (At Mark) → List Added
-mark_lines_of k why ms = marks.mark_lines_of (symbol_names k.symbols) why ms
+mark_lines_of k why ms = marks.mark_lines_of (symbol_names k.symbols) why (shown_marks k.read (symbol_names k.symbols) ms)
 
 abbrev pub lines_of : Show → Known → PrintedResults → List Added
 lines_of All k r = claims_of k r ++ mark_lines_of k true r.marks

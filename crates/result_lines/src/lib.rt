@@ -8,6 +8,7 @@ mod loop_marks;
 mod obstacle;
 mod set_lines;
 mod show;
+mod shown;
 mod spots;
 mod statement;
 

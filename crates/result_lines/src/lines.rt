@@ -68,7 +68,6 @@ fn claims_of(
 }
 
 /// The directives of a module and, where `why` says so, the obstacles of its other loops.
-#[tactic(auto, using(crate::proofs::Naming::name_steps))]
 fn lines_on_loops(
     alloc: Global,
     view: &View<'_>,

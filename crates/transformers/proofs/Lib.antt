@@ -3,4 +3,6 @@ pub use Rattle.call_translation.proofs as CallTranslation
 pub mod Steps
 pub mod StatementLaws
 pub mod WhatLaws
+pub mod WhileSteps
+pub mod WhileLaws
 pub mod PartLaws

@@ -1,14 +1,11 @@
 -- What is known of statements and their parts, and of a list into which a place is filled later.
 use Rattle.std.proofs.Common.{◌≡◌, ℕ, zero, suc, ◌+◌, ◌-◌, ◌<◌, Bool, List, [], ◌∷◌, ◌++◌, length, drop, refl, ap, ◌∙◌, append_assoc, append-nil}
-use Rattle.std.specs.Prelude.{slice_set}
-use Rattle.std.proofs.Math.Seq.{set-append_seam}
 use Rattle.affine_systems.specs.Given.{Fits}
 use Rattle.f77_ast.proofs.PlainlyStmt.{what_calls, list_calls, loop_calls as do_calls, arm_calls as if_calls}
 use Rattle.f77_ast.specs.declared.results.At.{At}
 use Rattle.call_translation.specs.transformer_algebra.declared.transformer.Transformer.{Transformer}
 use Rattle.transformers.specs.Given.{ResultsFit}
 use Rattle.transformers.proofs.Steps.{results-push}
-use Rattle.fx_lists.proofs.Lists.{filled}
 use Rattle.call_translation.proofs.TransformerAlgebra.Shared.{fits-push}
 
 pub ruleset part_calls = (what_calls, results-push, append_assoc, append-nil)

@@ -5,7 +5,6 @@ use Rattle.affine_systems.specs.Given.{Fits}
 use Rattle.f77_ast.specs.Shared.{numbered}
 use Rattle.f77_ast.specs.declared.results.At.{At}
 use Rattle.call_translation.specs.transformer_algebra.declared.transformer.Transformer.{Transformer}
-use Rattle.call_translation.specs.transformer_algebra.Transformers.{AllFit}
 use Rattle.transformers.specs.Given.{ResultsFit}
 use Rattle.transformers.specs.Lists.{first_at, or_first, value_at}
 use Rattle.call_translation.proofs.TransformerAlgebra.Shared.{fits-push}

@@ -1,9 +1,7 @@
 -- What a form of a statement does, from what its parts do.
-use Rattle.std.proofs.Common.{◌≡◌, Bool, false, List, [], ◌∷◌, ◌++◌, refl, ap, sym, ◌∙◌, append_assoc}
+use Rattle.std.proofs.Common.{◌≡◌, Bool, false, List, [], ◌∷◌, ◌++◌, ap, sym, ◌∙◌}
 use Rattle.affine_systems.specs.declared.row.System.{System}
 use Rattle.affine_systems.specs.Calls.{meet}
-use Rattle.f77_ast.specs.declared.expr.Expr.{Expr}
-use Rattle.f77_ast.specs.declared.stmt.Stmt.{Stmt}
 use Rattle.f77_ast.specs.declared.stmt.Loop.{Loop, out-Loop}
 use Rattle.f77_ast.specs.Trees.{ExprTree, StmtTree, ArmTree, ArmTrees, ElseTree, LoopTree, StmtTrees}
 use Rattle.f77_ast.specs.Trees as tree
@@ -18,7 +16,7 @@ use Rattle.call_translation.specs.transformer_algebra.Loops.{iteration, loop_tra
 use Rattle.call_translation.specs.Scopes.{ScopeTree}
 use Rattle.transformers.specs.Given.{Callees}
 use Rattle.transformers.specs.Loops.{loop_parts}
-use Rattle.transformers.specs.Statement.{where_holds, if_does, choice, parts_do, without_arm, without_arms, what_transformer, stmt_transformer, arm_transformers, arm_transformer, else_transformer, body_transformer, list_transformer}
+use Rattle.transformers.specs.Statement.{where_holds, if_does, choice, parts_do, without_arms, what_transformer, arm_transformers, else_transformer, body_transformer, list_transformer}
 
 -- ---- an IF
 

@@ -5,5 +5,7 @@ pub mod Jumps
 pub mod Lists
 pub mod Loops
 pub mod Simple
+pub mod Whiles
 pub mod Statement
+pub mod WhileParts
 pub mod Modules

@@ -1,5 +1,5 @@
 -- What statements do to the tracked cells, one clause for each form (ANSI X3.9-1978 §7.1).
-use Rattle.std.specs.Prelude.{ℕ, Bool, true, false, ◌&&◌, List, [], ◌∷◌, ◌++◌, Option, if◌then◌else◌}
+use Rattle.std.specs.Prelude.{ℕ, Bool, false, ◌&&◌, List, [], ◌∷◌, ◌++◌, if◌then◌else◌}
 use Rattle.affine_systems.specs.declared.row.System.{System}
 use Rattle.affine_systems.specs.Calls.{meet}
 use Rattle.f77_ast.specs.Trees.{ExprTree, StmtTree, WhatTree, ArmTree, ArmTrees, ElseTree, LoopTree, StmtTrees}
@@ -19,6 +19,7 @@ use Rattle.transformers.specs.Jumps.{is_end}
 use Rattle.transformers.specs.Lists.{list_of}
 use Rattle.transformers.specs.Loops.{loop_parts}
 use Rattle.transformers.specs.Simple.{assignment, reading}
+use Rattle.transformers.specs.Whiles.{while_in, while_or}
 
 -- what a module is looked at with
 abbrev pub scope_in : TransformerContext → ScopeTree
@@ -85,7 +86,37 @@ abbrev mutual
   arm_transformers (tree.more_arms a rest) m cs before = arm_transformer a m cs before ∷ arm_transformers rest m cs (without_arm a m before)
 
   pub arm_transformer : ArmTree → ScopeTree → Callees → System → Transformer
-  arm_transformer (tree.arm e body) m cs before = where_holds (meet before (condition_of m.scalars e).yes) (list_of false body (each_transformer body m cs false))
+  arm_transformer (tree.arm e body) m cs before =
+      where_holds (meet before (condition_of m.scalars e).yes)
+      (while_or (while_in body) m (inner_transformers body m cs) (list_of false body (each_transformer body m cs false)))
+
+  -- of the statements of the first arm of the block IF with which a list begins
+  pub inner_transformers : StmtTrees → ScopeTree → Callees → List Transformer
+  inner_transformers tree.no_stmts m cs = []
+  inner_transformers (tree.more_stmts s rest) m cs = inner_of_stmt s m cs
+
+  pub inner_of_stmt : StmtTree → ScopeTree → Callees → List Transformer
+  inner_of_stmt (tree.stmt n label w) m cs = inner_of_what w m cs
+
+  pub inner_of_what : WhatTree → ScopeTree → Callees → List Transformer
+  inner_of_what (tree.assign a b) m cs = []
+  inner_of_what (tree.block_if arms other) m cs = inner_of_arms arms m cs
+  inner_of_what (tree.logical_if e s) m cs = []
+  inner_of_what (tree.do_loop l) m cs = []
+  inner_of_what (tree.call x es) m cs = []
+  inner_of_what (tree.goto l) m cs = []
+  inner_of_what tree.continue m cs = []
+  inner_of_what tree.return m cs = []
+  inner_of_what (tree.stop text) m cs = []
+  inner_of_what (tree.print es) m cs = []
+  inner_of_what (tree.read es) m cs = []
+
+  pub inner_of_arms : ArmTrees → ScopeTree → Callees → List Transformer
+  inner_of_arms tree.no_arms m cs = []
+  inner_of_arms (tree.more_arms a rest) m cs = inner_of_arm a m cs
+
+  pub inner_of_arm : ArmTree → ScopeTree → Callees → List Transformer
+  inner_of_arm (tree.arm e body) m cs = each_transformer body m cs false
 
   pub else_transformer : ElseTree → ScopeTree → Callees → Transformer
   else_transformer tree.no_else m cs = identity_transformer
@@ -93,6 +124,10 @@ abbrev mutual
 
   pub body_transformer : LoopTree → ScopeTree → Callees → Transformer
   body_transformer (tree.loop index first last step body) m cs = list_of false body (each_transformer body m cs false)
+
+-- the statements of an arm
+abbrev pub arm_list_transformer : StmtTrees → ScopeTree → Callees → Transformer
+arm_list_transformer body m cs = while_or (while_in body) m (inner_transformers body m cs) (list_of false body (each_transformer body m cs false))
 
 -- a list; `whole` says that it is the body of the module
 abbrev pub list_transformer : StmtTrees → ScopeTree → Callees → Bool → Transformer

@@ -59,7 +59,7 @@ fn goes_beyond(labels: &[u32], what: &What) -> bool
 }
 
 /// Whether a statement is what is looked for.
-fn is_sought(sought: &Sought<'_>, what: &What) -> bool
+pub fn is_sought(sought: &Sought<'_>, what: &What) -> bool
     ensures { result ≡ such_of sought.now (what_tree what.now) }
 {
     match sought {

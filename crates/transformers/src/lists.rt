@@ -5,7 +5,7 @@ ghost use Rattle.f77_ast.specs.PlainStmt.{stmt_trees};
 ghost use Rattle.f77_ast.specs.Shared.{numbered};
 ghost use Rattle.call_translation.specs.transformer_algebra.Transformers.{AllFit};
 ghost use Rattle.transformers.specs.Given.{ResultsFit};
-ghost use Rattle.transformers.specs.Lists.{first_at, value_at as value_at_is, transformer_at as transformer_at_is, followed_by, in_order as in_order_is, in_any_order as in_any_order_is, list_of as list_of_is, list_at as list_at_is};
+ghost use Rattle.transformers.specs.Lists.{first_at, value_at as value_at_is, transformer_at as transformer_at_is, followed_by, in_order as in_order_is, in_any_order as in_any_order_is, list_of as list_of_is, each_at as each_at_is, list_at as list_at_is};
 
 use crate::is_unstructured;
 use affine_forms::no_rows;
@@ -75,7 +75,7 @@ fn followed_by(
 }
 
 /// One after the other, from left to right.
-fn in_order(alloc: Global, all: &[Transformer]) -> Result<Transformer, Memory>
+pub fn in_order(alloc: Global, all: &[Transformer]) -> Result<Transformer, Memory>
     requires { AllFit all.now }
     ensures defined { IfOk result (λ t. t ≡ in_order_is all.now) }
     ensures fits { IfOk result (λ t. Fits t.system) }
@@ -90,7 +90,7 @@ fn in_order(alloc: Global, all: &[Transformer]) -> Result<Transformer, Memory>
 }
 
 /// Each any number of times, in any order. Each cell is looked up among those before it.
-fn in_any_order(alloc: Global, all: &[Transformer]) -> Result<Transformer, Memory>
+pub fn in_any_order(alloc: Global, all: &[Transformer]) -> Result<Transformer, Memory>
     ensures defined { IfOk result (λ t. t ≡ in_any_order_is all.now) }
     ensures fits { IfOk result (λ t. Fits t.system) }
 {
@@ -184,8 +184,28 @@ pub fn transformer_at(
     }
 }
 
-/// The transformer of a list, as `list_of`, from the results for its statements in `at`: the identity transformer for one without a result.
+/// The transformers of the statements of a list, from the results for them in `at`: the identity transformer for one without a result.
 #[tactic(auto, using(crate::proofs::Steps::lists))]
+pub fn each_at(
+    alloc: Global,
+    list: &List<Stmt>,
+    at: &List<At<Transformer>>,
+) -> Result<Vec<Transformer>, Memory>
+    requires { ResultsFit at.now }
+    ensures defined { IfOk result (λ ts. ts.items ≡ each_at_is (transformer_at_is at.now) (stmt_trees list.now)) }
+    ensures fits { IfOk result (λ ts. AllFit ts.items) }
+{
+    let mut all = Vec::new(alloc);
+    let mut rest = list.as_slice();
+    while let [s, more @ ..] = rest {
+        let t = transformer_at(alloc, at, s.id)?;
+        push_transformer(&mut all, t)?;
+        rest = more;
+    }
+    Ok(all)
+}
+
+/// The transformer of a list, as `list_of`, from the results for its statements in `at`, as `each_at`.
 pub fn list_at(
     alloc: Global,
     list: &List<Stmt>,
@@ -196,13 +216,7 @@ pub fn list_at(
     ensures defined { IfOk result (λ t. t ≡ list_at_is (transformer_at_is at.now) whole (stmt_trees list.now)) }
     ensures fits { IfOk result (λ t. Fits t.system) }
 {
-    let mut all = Vec::new(alloc);
-    let mut rest = list.as_slice();
-    while let [s, more @ ..] = rest {
-        let t = transformer_at(alloc, at, s.id)?;
-        push_transformer(&mut all, t)?;
-        rest = more;
-    }
+    let all = each_at(alloc, list, at)?;
     list_of(alloc, list, whole, all.as_slice())
 }
 

@@ -1,8 +1,8 @@
 //! What statements do to the tracked cells.
-ghost use Rattle.std.specs.Prelude.{◌≡◌, ◌+◌, ◌<◌, ◌&&◌, [], ◌∷◌, ◌++◌, length, drop, IfOk, OnOk};
+ghost use Rattle.std.specs.Prelude.{◌≡◌, ◌+◌, ◌<◌, ◌&&◌, false, [], ◌∷◌, ◌++◌, length, drop, IfOk, OnOk};
 ghost use Rattle.affine_systems.specs.Given.{Fits};
 ghost use Rattle.f77_ast.specs.Plain.{expr_tree};
-ghost use Rattle.f77_ast.specs.PlainStmt.{stmt_tree, stmt_trees, what_tree, loop_tree, arm_trees};
+ghost use Rattle.f77_ast.specs.PlainStmt.{stmt_tree, stmt_trees, what_tree, loop_tree, arm_tree, arm_trees};
 ghost use Rattle.affine_forms.specs.Conditions.{no_rows as no_rows_is};
 ghost use Rattle.call_translation.specs.transformer_algebra.Loops.{LoopFits};
 ghost use Rattle.call_translation.specs.transformer_algebra.Transformers.{AllFit};
@@ -10,12 +10,15 @@ ghost use Rattle.call_translation.specs.Scopes.{scope_tree};
 ghost use Rattle.transformers.specs.Given.{CalleesFit, ResultsFit};
 ghost use Rattle.transformers.specs.Jumps.{is_end};
 ghost use Rattle.transformers.specs.Loops.{loop_parts as loop_parts_is};
-ghost use Rattle.transformers.specs.Statement.{scope_in, callees_in, where_holds, choice, parts_do, stmt_transformer as stmt_transformer_is, what_transformer as what_transformer_is, arm_transformers as arm_transformers_is, without_arms, body_transformer, if_does, list_transformer as list_transformer_is, at, at_stmt, at_parts, at_list, at_arms, at_loop};
+ghost use Rattle.transformers.specs.Statement.{scope_in, callees_in, where_holds, choice, parts_do, stmt_transformer as stmt_transformer_is, what_transformer as what_transformer_is, each_transformer as each_transformer_is, arm_transformers as arm_transformers_is, arm_list_transformer as arm_list_transformer_is, inner_of_arm, without_arms, body_transformer, if_does, list_transformer as list_transformer_is, at, at_stmt, at_parts, at_list, at_arms, at_loop};
+ghost use Rattle.transformers.specs.WhileParts.{arm_while, labelled_does, at_while};
+ghost use Rattle.transformers.specs.Whiles.{while_does as while_does_is};
 
 use crate::jumps::is_end;
 use crate::lists::{copy_transformer, list_of, push_transformer};
 use crate::loops::loop_parts;
 use crate::simple::{assignment, reading};
+use crate::whiles::{while_does, while_in};
 use affine_forms::{condition_of, no_rows};
 use affine_systems::{System, meet};
 use call_translation::transformer_algebra::{
@@ -162,6 +165,34 @@ fn is_last(whole: bool, list: &[Stmt], place: usize) -> bool
     whole && is_end(&list[place + 1..])
 }
 
+/// The transformers of the statements of a list; those and those of their parts are appended to `at`. `whole`: the list is the body of the
+/// module.
+#[cycle(transformers)]
+#[tactic(auto, using(crate::proofs::StatementLaws::statement_calls))]
+fn each_transformer(
+    alloc: Global,
+    known: &TransformerContext<'_>,
+    list: &List<Stmt>,
+    whole: bool,
+    at: &mut TransformerList,
+) -> Result<Vec<Transformer>, Memory>
+    requires callees { CalleesFit (callees_in known.now) }
+    requires results { ResultsFit at.old }
+    ensures defined { IfOk result (λ ts. ts.items ≡ each_transformer_is (stmt_trees list.now) (scope_in known.now) (callees_in known.now) whole) }
+    ensures fits { IfOk result (λ ts. AllFit ts.items) }
+    ensures added { IfOk result (λ _. at.new ≡ at.old ++ at_list (stmt_trees list.now) (scope_in known.now) (callees_in known.now) whole) }
+    ensures results_fit { IfOk result (λ _. ResultsFit at.new) }
+{
+    let mut all = Vec::new(alloc);
+    let statements = list.as_slice();
+    for (place, s) in statements.iter().enumerate() {
+        let last = is_last(whole, statements, place);
+        let t = stmt_transformer(alloc, known, s, last, at)?;
+        push_transformer(&mut all, t)?;
+    }
+    Ok(all)
+}
+
 /// The transformer of a list; those of its statements and of their parts are appended to `at`. `whole`: the list is the body of the module.
 /// Each list is searched for GO TOs, so a statement is visited once for each list that it is in, at any depth.
 #[cycle(transformers)]
@@ -180,14 +211,71 @@ pub fn with_list(
     ensures added { IfOk result (λ _. at.new ≡ at.old ++ at_list (stmt_trees list.now) (scope_in known.now) (callees_in known.now) whole) }
     ensures results_fit { IfOk result (λ _. ResultsFit at.new) }
 {
-    let mut all = Vec::new(alloc);
-    let statements = list.as_slice();
-    for (place, s) in statements.iter().enumerate() {
-        let last = is_last(whole, statements, place);
-        let t = stmt_transformer(alloc, known, s, last, at)?;
-        push_transformer(&mut all, t)?;
-    }
+    let all = each_transformer(alloc, known, list, whole, at)?;
     list_of(alloc, list, whole, all.as_slice())
+}
+
+/// Of the labelled block IF of a DO WHILE, from the transformers of its statements, with the GO TO.
+fn labelled_transformer(
+    alloc: Global,
+    scope: &CellScope<'_>,
+    arm: &Arm,
+    all: &[Transformer],
+) -> Result<Transformer, Memory>
+    requires { AllFit all.now }
+    ensures defined { IfOk result (λ t. t ≡ labelled_does (scope_tree scope.now.symbols.now scope.now.tracked.now) (arm_while (arm_tree arm.now)) all.now) }
+    ensures fits { IfOk result (λ t. Fits t.system) }
+{
+    let does = list_of(alloc, &arm.body, false, all)?;
+    if_transformer(alloc, scope, &arm.test, &does)
+}
+
+/// The transformer of the list of a DO WHILE, of which these are the number and the arm of the labelled block IF.
+#[cycle(transformers)]
+#[tactic(auto, using(crate::proofs::StatementLaws::part_calls))]
+fn while_transformer(
+    alloc: Global,
+    known: &TransformerContext<'_>,
+    id: StmtId,
+    arm: &Arm,
+    at: &mut TransformerList,
+) -> Result<Transformer, Memory>
+    requires callees { CalleesFit (callees_in known.now) }
+    requires results { ResultsFit at.old }
+    ensures defined { IfOk result (λ t. t ≡ while_does_is (scope_in known.now) (arm_while (arm_tree arm.now)) (inner_of_arm (arm_tree arm.now) (scope_in known.now) (callees_in known.now))) }
+    ensures fits { IfOk result (λ t. Fits t.system) }
+    ensures added { IfOk result (λ _. at.new ≡ at.old ++ at_while id (arm_tree arm.now) (scope_in known.now) (callees_in known.now)) }
+    ensures results_fit { IfOk result (λ _. ResultsFit at.new) }
+{
+    let place = at.len();
+    push_result(at, id, identity_transformer(alloc))?;
+    let all = each_transformer(alloc, known, &arm.body, false, at)?;
+    let value = labelled_transformer(alloc, known.scope, arm, all.as_slice())?;
+    let whole = while_does(alloc, known.scope, arm, all.as_slice())?;
+    at.set(place, At { id, value });
+    Ok(whole)
+}
+
+/// The transformer of the statements of an arm; those of the statements and of their parts are appended to `at`.
+#[cycle(transformers)]
+#[tactic(auto, using(crate::proofs::StatementLaws::part_calls))]
+fn arm_list_transformer(
+    alloc: Global,
+    known: &TransformerContext<'_>,
+    list: &List<Stmt>,
+    at: &mut TransformerList,
+) -> Result<Transformer, Memory>
+    requires callees { CalleesFit (callees_in known.now) }
+    requires results { ResultsFit at.old }
+    ensures defined { IfOk result (λ t. t ≡ arm_list_transformer_is (stmt_trees list.now) (scope_in known.now) (callees_in known.now)) }
+    ensures fits { IfOk result (λ t. Fits t.system) }
+    ensures added { IfOk result (λ _. at.new ≡ at.old ++ at_list (stmt_trees list.now) (scope_in known.now) (callees_in known.now) false) }
+    ensures results_fit { IfOk result (λ _. ResultsFit at.new) }
+{
+    match while_in(list) {
+        None => with_list(alloc, known, list, false, at),
+        Some(w) => while_transformer(alloc, known, w.id, w.arm, at),
+    }
 }
 
 /// Transformers of arms, and what holds where their tests are false.
@@ -219,7 +307,7 @@ fn arm_transformers(
     let mut before = no_rows(alloc);
     for arm in arms.as_slice() {
         let condition = condition_of(alloc, scope.symbols, scope.tracked, &arm.test)?;
-        let body = with_list(alloc, known, &arm.body, false, at)?;
+        let body = arm_list_transformer(alloc, known, &arm.body, at)?;
         let yes = meet(alloc, &before, &condition.yes)?;
         let t = where_holds(alloc, yes, &body)?;
         push_transformer(&mut all, t)?;

@@ -8,9 +8,10 @@ use Rattle.f77_ast.specs.declared.results.At.{At}
 use Rattle.preconditions.specs.call_translation.Scopes.{ScopeTree}
 use Rattle.preconditions.specs.transformers.Given.{Callees}
 use Rattle.preconditions.specs.transformers.Jumps.{is_end, unstructured}
+use Rattle.preconditions.specs.transformers.Whiles.{WhileTree, while_in}
 use Rattle.preconditions.specs.transformers.Statement as transformers
 use Rattle.preconditions.specs.Statement as preconditions
-use Rattle.preconditions.specs.Statement.{PreconditionList, if_true, past_arm, past_arms, each_iteration, throughout, after}
+use Rattle.preconditions.specs.Statement.{PreconditionList, if_true, past_arm, past_arms, each_iteration, throughout, while_begins, while_found, after}
 use Rattle.f77_ast.specs.StatementNumbers.{stmt_numbers, part_numbers, list_numbers, arms_numbers, arm_numbers, else_numbers, loop_numbers, HasNumbers}
 use Rattle.laws_analyses.specs.Statements.Laws.{HaveOwnNumbers}
 
@@ -76,6 +77,10 @@ either_ids : (b : Bool) (xs ys : List (At System)) (ns : List ℕ) → ids xs �
 either_ids true xs ys ns e f = e
 either_ids false xs ys ns e f = f
 
+while_ids : (o : Option WhileTree) (xs ys : List (At System)) (ns : List ℕ) → ids xs ≡ ns → ids ys ≡ ns → ids (while_found o xs ys) ≡ ns
+while_ids None xs ys ns e f = f
+while_ids (Some w) xs ys ns e f = e
+
 module _ (m : ScopeTree) (t : PreconditionList) where
   mutual
     p_stmt : (s : StmtTree) (p : System) → ids (preconditions.at_stmt s m t p) ≡ stmt_numbers s
@@ -107,7 +112,10 @@ module _ (m : ScopeTree) (t : PreconditionList) where
     p_arms (tree.more_arms a rest) p = ids_parts (preconditions.at_arm a m t p) (preconditions.at_arms rest m t (past_arm a m p)) (arm_numbers a) (arms_numbers rest) (p_arm a p) (p_arms rest (past_arm a m p))
 
     p_arm : (a : ArmTree) (p : System) → ids (preconditions.at_arm a m t p) ≡ arm_numbers a
-    p_arm (tree.arm e body) p = either_ids (unstructured false body) (preconditions.at_all body m t (throughout false body t (if_true m e p))) (preconditions.at_each body m t (if_true m e p)) (list_numbers body) (p_all body (throughout false body t (if_true m e p))) (p_each body (if_true m e p))
+    p_arm (tree.arm e body) p =
+        let begins = while_begins (while_in body) m t (if_true m e p) in
+        while_ids (while_in body) (preconditions.at_all body m t begins) (preconditions.at_list false body m t (if_true m e p)) (list_numbers body) (p_all body begins)
+        (either_ids (unstructured false body) (preconditions.at_all body m t (throughout false body t (if_true m e p))) (preconditions.at_each body m t (if_true m e p)) (list_numbers body) (p_all body (throughout false body t (if_true m e p))) (p_each body (if_true m e p)))
 
     p_else : (other : ElseTree) (p : System) → ids (preconditions.at_else other m t p) ≡ else_numbers other
     p_else tree.no_else p = refl

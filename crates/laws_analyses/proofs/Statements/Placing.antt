@@ -10,11 +10,12 @@ use Rattle.preconditions.specs.transformer_algebra.declared.transformer.Transfor
 use Rattle.preconditions.specs.call_translation.Scopes.{ScopeTree}
 use Rattle.preconditions.specs.transformers.Given.{Callees}
 use Rattle.preconditions.specs.transformers.Jumps.{stmt_has, parts_have, list_has, arms_have, arm_has, else_has, loop_has, is_end, unstructured}
+use Rattle.preconditions.specs.transformers.Whiles.{WhileTree, while_in}
 use Rattle.preconditions.specs.transformers.Statement as transformers
 use Rattle.preconditions.specs.Statement as preconditions
-use Rattle.preconditions.specs.Statement.{if_true, past_arm, past_arms, each_iteration, throughout, after}
+use Rattle.preconditions.specs.Statement.{if_true, past_arm, past_arms, each_iteration, throughout, while_begins, while_found, after}
 use Rattle.laws_analyses.specs.Statements.Targets.{has_targets, lacks_targets}
-use Rattle.laws_analyses.specs.Statements.Placed.{Found, Either, PlacedAt, Placed, PlacedParts, PlacedEach, PlacedAll, PlacedArms, PlacedArm, PlacedElse, PlacedLoop, PlacedList}
+use Rattle.laws_analyses.specs.Statements.Placed.{Found, Either, PlacedOr, PlacedAt, Placed, PlacedParts, PlacedEach, PlacedAll, PlacedArms, PlacedArm, PlacedElse, PlacedLoop, PlacedList}
 use Rattle.call_graph.specs.CallsIn.{CallAt, Each, stmt_calls, what_calls, list_calls, arms_calls, arm_calls, else_calls, loop_calls}
 
 pub each_parts : {T : Type 0} (P : T → Type 0) (xs ys : List T) → Each P (xs ++ ys) → Each P xs × Each P ys
@@ -24,6 +25,10 @@ each_parts P (x ∷ xs) ys h = let q = each_parts P xs ys h.1 in ((h.0, q.0), q.
 pick : {T : Type 0} (P : T → Type 0) (c : Bool) (xs ys : List T) (A B : Type 0) → (Each P xs → A) → (Each P ys → B) → Each P (if c then xs else ys) → Either c A B
 pick P true xs ys A B f g h = f h
 pick P false xs ys A B f g h = g h
+
+pick_while : (P : At System → Type 0) (o : Option WhileTree) (xs ys : List (At System)) (A B : Type 0) → (Each P xs → A) → (Each P ys → B) → Each P (while_found o xs ys) → PlacedOr o A B
+pick_while P None xs ys A B f g h = g h
+pick_while P (Some w) xs ys A B f g h = f h
 
 module _ (r : Found) (covers : List ℕ → ExprTrees → System → Type 0) (m : ScopeTree) (cs : Callees) (scalar : List ℕ → Bool) where
   -- a result at a statement is what is found by its number
@@ -96,8 +101,12 @@ module _ (r : Found) (covers : List ℕ → ExprTrees → System → Type 0) (m 
 
     placed_arm : (a : ArmTree) (p : System) → arm_has bad a ≡ false → Each FoundT (transformers.at_arm a m cs) → Each FoundP (preconditions.at_arm a m r.transformer p) → Each Owed (arm_calls a) → PlacedArm r covers m cs scalar a p
     placed_arm (tree.arm e body) p k ht hp hc =
-        pick FoundP (unstructured false body) (preconditions.at_all body m r.transformer (throughout false body r.transformer (if_true m e p))) (preconditions.at_each body m r.transformer (if_true m e p)) _ _
-        (λ h. placed_all body false (throughout false body r.transformer (if_true m e p)) k ht h hc) (λ h. placed_each body false (if_true m e p) k ht h hc) hp
+        let begins = while_begins (while_in body) m r.transformer (if_true m e p) in
+        pick_while FoundP (while_in body) (preconditions.at_all body m r.transformer begins) (preconditions.at_list false body m r.transformer (if_true m e p)) _ _
+        (λ h. placed_all body false begins k ht h hc)
+        (λ q. pick FoundP (unstructured false body) (preconditions.at_all body m r.transformer (throughout false body r.transformer (if_true m e p))) (preconditions.at_each body m r.transformer (if_true m e p)) _ _
+        (λ h. placed_all body false (throughout false body r.transformer (if_true m e p)) k ht h hc) (λ h. placed_each body false (if_true m e p) k ht h hc) q)
+        hp
 
     placed_else : (other : ElseTree) (p : System) → else_has bad other ≡ false → Each FoundT (transformers.at_else other m cs) → Each FoundP (preconditions.at_else other m r.transformer p) → Each Owed (else_calls other) → PlacedElse r covers m cs scalar other p
     placed_else tree.no_else p k ht hp hc = tt

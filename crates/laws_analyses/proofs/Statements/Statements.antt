@@ -1,18 +1,16 @@
 -- Each execution in a statement has its claims, and the statement ends as its transformer and its precondition say.
 use Rattle.std.proofs.Common.{◌≡◌, ℕ, zero, suc, ◌<◌, List, [], ◌∷◌, ◌++◌, ◌||◌, ◌&&◌, Option, Some, None, Bool, true, false, refl, sym, ap, ◌∙◌, subst, ℤ, pos, nat_eq, true≢false}
-use Rattle.std.specs.Prelude.{if◌then◌else◌, unwrap_or}
+use Rattle.std.specs.Prelude.{unwrap_or}
 use Rattle.std.specs.Ordering.{int_eq}
 use Rattle.std.proofs.lemmas.Bool.{or_left, or_right, and_parts}
 use Rattle.affine_systems.specs.declared.row.System.{System}
 use Rattle.affine_systems.specs.Calls.{meet}
-use Rattle.affine_systems.proofs.CallLaws.{meet_holds}
 use Rattle.f77_ast.specs.Trees.{ExprTree, ExprTrees, StmtTree, WhatTree, ArmTree, ArmTrees, ElseTree, LoopTree, StmtTrees}
 use Rattle.f77_ast.specs.Trees as tree
 use Rattle.f77_ast.specs.Store.{Content, content, Int, Store, put}
 use Rattle.f77_ast.specs.Faults.{Locked}
-use Rattle.f77_ast.specs.Numbers.{is_true}
 use Rattle.f77_ast.specs.Places.{Names, Places, Variable}
-use Rattle.f77_ast.specs.Values.{value, Target, name_target}
+use Rattle.f77_ast.specs.Values.{name_target}
 use Rattle.f77_ast.specs.Writes.{Locks, lock, write}
 use Rattle.f77_ast.specs.Plans.{Flow, Normal, Jump, Returned, Stopped, Plan, Ends, first}
 use Rattle.f77_ast.specs.Executions.{Claim}
@@ -25,8 +23,7 @@ use Rattle.f77_ast.specs.Symbols.{number_from}
 use Rattle.affine_forms.specs.Scalars.{is_cell}
 use Rattle.affine_forms.specs.Forms.{affine_of}
 use Rattle.affine_forms.specs.Conditions.{no_rows, condition_of}
-use Rattle.affine_forms.specs.Claims.{Says, unit_in, numbers_of}
-use Rattle.affine_forms.proofs.ConditionLaws.{condition_leads}
+use Rattle.affine_forms.specs.Claims.{unit_in, numbers_of}
 use Rattle.preconditions.specs.transformer_algebra.declared.transformer.Transformer.{Transformer}
 use Rattle.preconditions.specs.transformer_algebra.declared.loop_parts.LoopParts.{LoopParts}
 use Rattle.preconditions.specs.transformer_algebra.Cells.{has}
@@ -42,8 +39,9 @@ use Rattle.preconditions.specs.transformers.Simple.{assignment, reading}
 use Rattle.preconditions.specs.transformers.Jumps.{stmt_has, parts_have, list_has, arms_have, arm_has, else_has, loop_has, goes_to, is_end, unstructured}
 use Rattle.preconditions.specs.transformers.Lists.{list_of, each_at, list_at}
 use Rattle.preconditions.specs.transformers.Loops.{step_of, number_in, loop_parts}
-use Rattle.preconditions.specs.transformers.Statement.{parts_do, where_holds, if_does, choice, without_arm, without_arms, stmt_transformer, what_transformer, each_transformer, arm_transformers, arm_transformer, else_transformer, body_transformer}
-use Rattle.preconditions.specs.Statement.{some_holds, if_true, if_false, past_arm, past_arms, parts_of, each_iteration, throughout, after, after_what, after_each, after_arms, after_arm, after_else, after_loop_of, after_list}
+use Rattle.preconditions.specs.transformers.Whiles.{WhileTree, goes_back, while_iteration}
+use Rattle.preconditions.specs.transformers.Statement.{parts_do, where_holds, if_does, without_arm, without_arms, stmt_transformer, what_transformer, each_transformer, arm_transformers, inner_transformers, arm_list_transformer, else_transformer, body_transformer}
+use Rattle.preconditions.specs.Statement.{some_holds, if_true, if_false, past_arm, past_arms, parts_of, each_iteration, throughout, after, after_what, after_each, after_arms, after_else, after_loop_of, after_list, after_arm_list}
 use Rattle.laws_analyses.specs.Statements.Good.{Good}
 use Rattle.laws_analyses.proofs.Statements.Rules.{good_ends, good_more, good_first, good_write, good_at}
 use Rattle.laws_analyses.proofs.Statements.ListRules.{Verified}
@@ -53,13 +51,17 @@ use Rattle.laws_analyses.specs.Statements.Leads.{stmt_leads, what_leads, each_le
 use Rattle.laws_analyses.specs.Statements.Activation.{NamesFit, scene_at, Fit, Stayed, Done, Ended}
 use Rattle.laws_analyses.specs.Statements.Placed.{Found, PlacedAt, Placed, PlacedParts, PlacedEach, PlacedAll, PlacedArms, PlacedArm, PlacedElse, PlacedLoop, PlacedList}
 use Rattle.laws_analyses.proofs.Statements.Simple.{same_kept, idle_done, idle_good, nowhere_stayed, assign_good, print_good, read_good}
-use Rattle.laws_analyses.proofs.Statements.Tracks.{all_track, what_tracks, arms_track, else_tracks, body_tracks, stmt_tracks}
+use Rattle.laws_analyses.proofs.Statements.Tracks.{while_tracks, inner_track, all_track, what_tracks, arms_track, else_tracks, body_tracks, stmt_tracks}
 use Rattle.laws_analyses.proofs.Statements.Counts.{not_zero}
 use Rattle.laws_analyses.proofs.Statements.Ranges.{StepIs, range_leads}
 use Rattle.laws_analyses.proofs.Statements.Rows.{SoFar, added, row_from, so_far_end}
 use Rattle.laws_analyses.proofs.Statements.Arms.{ArmsEnded, if_ends, arm_ends, more_arms}
 use Rattle.laws_analyses.proofs.Statements.Loops.{also, counted_good, loose_good}
 use Rattle.laws_analyses.proofs.Statements.Lists.{Inc, inc_all, inc_next, own_of, H, E, goes_in, Stmt_ended, Claimed, claim_of, list_found, Verified_all, loose_holds, loose_done, loose_next, Straight, row_one, list_from}
+use Rattle.laws_analyses.proofs.Statements.Tests.{tested, met, nothing_asked}
+use Rattle.laws_analyses.proofs.Statements.Backs.{other_leads, others_first, OfArm, OfArms, OfWhat, OfStmt, OfInner, OfFirst}
+use Rattle.laws_analyses.proofs.Statements.Bodies.{Row_back, last_back, one_back, body_from}
+use Rattle.laws_analyses.proofs.Statements.Whiles.{BodyGood, FirstGood, arm_list_good}
 use Rattle.f77_ast.specs.Shapes.{is_return}
 
 module _ (C : Claim) (m : ScopeTree) (cs : Callees) (r : Found) (covers : List ℕ → ExprTrees → System → Type 0) (scalar : List ℕ → Bool) (sc : Scope) (at : Places) (far : BlockUnit → Bool) (place : BlockUnit → ℕ) (nf : NamesFit sc.names m) (claimed : Claimed C m cs r covers scalar sc at far place) (Fits : Locks → (ℕ → Bool) → Type 0) (base : (locked : Locks) (still : ℕ → Bool) → Fits locked still → Fit sc.names scalar at (scene_at m at far place) locked still) (more_fits : (locked : Locks) (still : ℕ → Bool) (x : List ℕ) (v : ℕ) → sc.names x ≡ Variable v → scalar x ≡ true → Fits locked still → Fits (lock locked (at v).first Locked) (also still (at v).first)) (calls_track : (x : List ℕ) (es : ExprTrees) → Tracks (scene_at m at far place) (call_transformer m (cs x) es).cells) (call_good : (x : List ℕ) (es : ExprTrees) (n : ℕ) (locked : Locks) (still : ℕ → Bool) → Fits locked still → (P : System) (z : Store) → HoldsAt (scene_at m at far place) P (numbers_of z) → covers x es P → Good C (call_plan (actuals es 0 sc.names at (sc.own_unit n)) (sc.callee x) locked) z (Ended (scene_at m at far place) (call_transformer m (cs x) es) (apply (call_transformer m (cs x) es) P) (λ ls. false) false false still z)) where
@@ -81,14 +83,24 @@ module _ (C : Claim) (m : ScopeTree) (cs : Callees) (r : Found) (covers : List �
   abbrev bodies : StmtTrees → Locks → Plan
   bodies body l = list_plan sc.turns (parts body sc at l)
 
-  no_own : (last : Bool) → (last && false) ≡ true → ⊥
-  no_own last h = true≢false (sym (and_parts last false h).1)
-
   is : (c : ℕ) → is_cell m.tracked c ≡ true → e.tracked c ≡ true
   is c h = h
 
   back : (c : ℕ) → e.tracked c ≡ is_cell m.tracked c
   back c = refl
+
+  -- what is proved of the statements of a DO WHILE, and of its labelled block IF
+  abbrev BodyOf : Locks → (ℕ → Bool) → StmtTrees → Type 0
+  BodyOf locked still ss = BodyGood C m cs r covers scalar sc at far place nf locked still ss
+
+  abbrev IfOf : Locks → (ℕ → Bool) → StmtTree → Type 0
+  IfOf locked still s = FirstGood C m cs r covers scalar sc at far place nf locked still s
+
+  inner_tracks : (ss : StmtTrees) (v : WhileTree) → Tracks e (while_iteration m v (inner_transformers ss m cs)).cells
+  inner_tracks ss v = while_tracks e m v (inner_transformers ss m cs) (inner_track e sc.names m nf is back cs calls_track ss)
+
+  no_own : (last : Bool) → (last && false) ≡ true → ⊥
+  no_own last h = true≢false (sym (and_parts last false h).1)
 
   -- with the transformer that was found for the statement
   found_apply : (v : WhatTree) (n : ℕ) (last : Bool) (P Q : System) (t : Plan) (goes : List ℕ → Bool) (ret own : Bool) (still : ℕ → Bool) (z : Store) → PlacedAt r covers m cs scalar n v last Q → Good C t z (Ends_as (what_transformer v m cs last) (apply (what_transformer v m cs last) P) goes ret own still z) → Good C t z (Ends_as (what_transformer v m cs last) (apply (r.transformer n) P) goes ret own still z)
@@ -173,25 +185,11 @@ module _ (C : Claim) (m : ScopeTree) (cs : Callees) (r : Found) (covers : List �
     do_good : PlacedList r covers m cs scalar body false (each_iteration L m r.transformer P) → Inner → Good C (do_plan L sc at locked) z (Ends_as (parts_do lp) (after_loop_of L m r.transformer P) G R (last && false) still z)
     do_good pl inner = do_found (ap (λ xs. list_of false body xs) (list_found C m cs r covers scalar sc at far place body false (each_iteration L m r.transformer P) pl)) inner
 
-  -- ---- tests
-
-  tested : (f : ExprTree) (one two : Plan) (z : Store) (Q : Flow → Store → Type 0) → (Hs (condition_of m.scalars f).yes z → Good C one z Q) → (Hs (condition_of m.scalars f).no z → Good C two z Q) → Good C (first (value f sc.names at) (λ c. if is_true c.number then one else two)) z Q
-  tested f one two z Q gy gn =
-      good_first C (value f sc.names at) _ z Q (λ i. condition_leads sc.names m.scalars (is_cell m.tracked) at z i nf.agrees f _ (λ c h. go (is_true c.number) h))
-    where
-      go : (b : Bool) → Says (is_cell m.tracked) (unit_in at) (condition_of m.scalars f).yes (condition_of m.scalars f).no (numbers_of z) b → Good C (if b then one else two) z Q
-      go true h = gy (h.true_side refl)
-      go false h = gn (h.false_side refl)
-
-  met : (p q : System) (z : Store) → Hs p z → Hs q z → Hs (meet p q) z
-  met p q z h k = λ x st. meet_holds x p q (h x st, k x st)
-
-  nothing_asked : (z : Store) → Hs no_rows z
-  nothing_asked z = λ x st. tt
+  -- ---- IF
 
   -- nothing is done where a system holds
   none_done : (q : System) (still : ℕ → Bool) (z : Store) → Hs q z → Done e identity_transformer q still z z
-  none_done q still z h = record { does = does_test e no_rows (numbers_of z) (nothing_asked z); after = h; steady = λ u f. refl }
+  none_done q still z h = record { does = does_test e no_rows (numbers_of z) (nothing_asked C m sc.names at far place nf z); after = h; steady = λ u f. refl }
 
   -- ---- logical IF
 
@@ -221,13 +219,13 @@ module _ (C : Claim) (m : ScopeTree) (cs : Callees) (r : Found) (covers : List �
     logical_good inner =
         good_more C (execution (tree.logical_if f s) n sc at locked) z One _
         (if_ends e still z Ts Qs Go Rt (last && false) (no_own last) (what_tracks e sc.names m nf is back cs calls_track (tree.logical_if f s) false))
-        (tested f (statement_plan s sc at locked) (Ends Normal) z One
+        (tested C m sc.names at far place nf f (statement_plan s sc at locked) (Ends Normal) z One
         (λ h. good_more C (statement_plan s sc at locked) z (Stmt_ended C m cs r covers scalar sc at far place s false (if_true m f P) still z) One
-        (arm_ends e still z Yes (stmt_transformer s m cs false) (after s m r.transformer (if_true m f P)) Ts Qs Go Go Rt Rt (own_of false s) (met no_rows (condition_of m.scalars f).yes z (nothing_asked z) h) here here (λ ls k. k) (λ k. k))
-        (inner (met P (condition_of m.scalars f).yes z hp h)))
+        (arm_ends e still z Yes (stmt_transformer s m cs false) (after s m r.transformer (if_true m f P)) Ts Qs Go Go Rt Rt (own_of false s) (met C m sc.names at far place nf no_rows (condition_of m.scalars f).yes z (nothing_asked C m sc.names at far place nf z) h) here here (λ ls k. k) (λ k. k))
+        (inner (met C m sc.names at far place nf P (condition_of m.scalars f).yes z hp h)))
         (λ h. good_ends C Normal z One
-        (arm_ends e still z No identity_transformer (if_false m f P) Ts Qs (λ ls. false) Go false Rt false (met no_rows (condition_of m.scalars f).no z (nothing_asked z) h) (there here) (there here) (λ ls k. absurd (true≢false (sym k))) (λ k. absurd (true≢false (sym k))) Normal z
-        (none_done (if_false m f P) still z (met P (condition_of m.scalars f).no z hp h)))))
+        (arm_ends e still z No identity_transformer (if_false m f P) Ts Qs (λ ls. false) Go false Rt false (met C m sc.names at far place nf no_rows (condition_of m.scalars f).no z (nothing_asked C m sc.names at far place nf z) h) (there here) (there here) (λ ls k. absurd (true≢false (sym k))) (λ k. absurd (true≢false (sym k))) Normal z
+        (none_done (if_false m f P) still z (met C m sc.names at far place nf P (condition_of m.scalars f).no z hp h)))))
 
   -- ---- block IF
 
@@ -274,22 +272,22 @@ module _ (C : Claim) (m : ScopeTree) (cs : Callees) (r : Found) (covers : List �
       no = (condition_of m.scalars f).no
 
       abbrev Tb : Transformer
-      Tb = list_of false body (each_transformer body m cs false)
+      Tb = arm_list_transformer body m cs
 
       abbrev Qb : System
-      Qb = after_list false body m r.transformer (if_true m f bp)
+      Qb = after_arm_list body m r.transformer (if_true m f bp)
 
       more_arms_good : (Hs (if_true m f bp) z → Good C (bodies body locked) z (Ends_as Tb Qb (λ ls. list_leads body ls) (list_has is_return body) false still z)) → (Hs (meet bt no) z → Hs (meet bp no) z → Arms rest (meet bt no) (meet bp no)) → Arms these bt bp
       more_arms_good this others =
-          tested f (bodies body locked) (arms_plan rest sc at locked (else_plan other sc at locked)) z (ArmsEnded e still z (AllT these bt) (AllP these bp) (GoA these) (RtA these))
+          tested C m sc.names at far place nf f (bodies body locked) (arms_plan rest sc at locked (else_plan other sc at locked)) z (ArmsEnded e still z (AllT these bt) (AllP these bp) (GoA these) (RtA these))
           (λ h. good_more C (bodies body locked) z _ _
-          (arm_ends e still z (meet bt yes) Tb Qb (AllT these bt) (AllP these bp) (λ ls. list_leads body ls) (GoA these) (list_has is_return body) (RtA these) false (met bt yes z ht h) here here
+          (arm_ends e still z (meet bt yes) Tb Qb (AllT these bt) (AllP these bp) (λ ls. list_leads body ls) (GoA these) (list_has is_return body) (RtA these) false (met C m sc.names at far place nf bt yes z ht h) here here
           (λ ls k. from_first (list_leads body ls) (arms_lead rest ls) (else_leads other ls) k) (λ k. from_first (list_has is_return body) (arms_have is_return rest) (else_has is_return other) k))
-          (this (met bp yes z hp h)))
+          (this (met C m sc.names at far place nf bp yes z hp h)))
           (λ h. good_more C (arms_plan rest sc at locked (else_plan other sc at locked)) z _ _
           (more_arms e still z (where_holds (meet bt yes) Tb) Qb (AllT rest (meet bt no)) (AllP rest (meet bp no)) (GoA rest) (GoA these) (RtA rest) (RtA these)
           (λ ls k. from_rest (list_leads body ls) (arms_lead rest ls) (else_leads other ls) k) (λ k. from_rest (list_has is_return body) (arms_have is_return rest) (else_has is_return other) k))
-          (others (met bt no z ht h) (met bp no z hp h)))
+          (others (met C m sc.names at far place nf bt no z ht h) (met C m sc.names at far place nf bp no z hp h)))
 
   -- ---- all statements
 
@@ -308,7 +306,7 @@ module _ (C : Claim) (m : ScopeTree) (cs : Callees) (r : Found) (covers : List �
         good_more C (arms_plan arms sc at locked (else_plan other sc at locked)) z _ _
         (if_ends e still z (AllT other locked still z arms no_rows) (AllP other locked still z arms P) (GoA other locked still z arms) (RtA other locked still z arms) (last && false) (no_own last)
         (all_track e (AllT other locked still z arms no_rows) (arms_track e sc.names m nf is back cs calls_track arms (else_transformer other m cs) (else_tracks e sc.names m nf is back cs calls_track other) no_rows)))
-        (arms_good arms other locked still fit no_rows P z (nothing_asked z) hp pl.0 (λ hq. else_good other locked still fit (past_arms arms m P) z hq pl.1))
+        (arms_good arms other locked still fit no_rows P z (nothing_asked C m sc.names at far place nf z) hp pl.0 (λ hq. else_good other locked still fit (past_arms arms m P) z hq pl.1))
     what_good (tree.logical_if f s) n last locked still fit P z hp pa pl =
         logical_good f s n last locked still P z hp (λ h. stmt_good s false locked still fit (if_true m f P) z h pl)
     what_good (tree.do_loop l) n last locked still fit P z hp pa pl = loop_list l last locked still fit P z hp pa.targets pl
@@ -345,10 +343,57 @@ module _ (C : Claim) (m : ScopeTree) (cs : Callees) (r : Found) (covers : List �
     arm_good : (a : ArmTree) (rest : ArmTrees) (other : ElseTree) (locked : Locks) (still : ℕ → Bool) → Fits locked still → (bt bp : System) (z : Store) → Hs bt z → Hs bp z → PlacedArm r covers m cs scalar a bp → (Hs (without_arm a m bt) z → Hs (past_arm a m bp) z → Arms other locked still z rest (without_arm a m bt) (past_arm a m bp)) → Arms other locked still z (tree.more_arms a rest) bt bp
     arm_good (tree.arm f body) rest other locked still fit bt bp z ht hp pl others =
         more_arms_good other locked still z f body rest bt bp ht hp
-        (λ h. list_from C m cs r covers scalar sc at far place body false (if_true m f bp) locked still z h pl
+        (λ h. arm_list_good C m cs r covers scalar sc at far place nf locked still body (if_true m f bp) z h (inner_tracks body) (inner_good body locked still fit) (first_good body locked still fit)
+        (λ pa. list_from C m cs r covers scalar sc at far place body false (if_true m f bp) locked still z h pa
         (λ jump st pe. row_good body body false jump locked still fit None (if_true m f bp) z z st (inc_all m cs false body) refl h pe)
-        (λ pa. each_good body body false (if_true m f bp) locked still fit z h 0 (inc_all m cs false body) pa))
+        (λ pb. each_good body body false (if_true m f bp) locked still fit z h 0 (inc_all m cs false body) pb))
+        pl)
         others
+
+    -- the first statement of a list
+    first_good : (ss : StmtTrees) (locked : Locks) (still : ℕ → Bool) → Fits locked still → OfFirst (IfOf locked still) ss
+    first_good tree.no_stmts locked still fit = tt
+    first_good (tree.more_stmts s rest) locked still fit = λ P z h pl. stmt_good s false locked still fit P z h pl
+
+    -- the statements of the first arm of the block IF with which a list begins, as those of a DO WHILE
+    inner_good : (ss : StmtTrees) (locked : Locks) (still : ℕ → Bool) → Fits locked still → OfInner (BodyOf locked still) ss
+    inner_good tree.no_stmts locked still fit = tt
+    inner_good (tree.more_stmts s rest) locked still fit = inner_stmt s locked still fit
+
+    inner_stmt : (s : StmtTree) (locked : Locks) (still : ℕ → Bool) → Fits locked still → OfStmt (BodyOf locked still) s
+    inner_stmt (tree.stmt n label v) locked still fit = inner_what v locked still fit
+
+    inner_what : (v : WhatTree) (locked : Locks) (still : ℕ → Bool) → Fits locked still → OfWhat (BodyOf locked still) v
+    inner_what (tree.assign a b) locked still fit = tt
+    inner_what (tree.block_if arms other) locked still fit = inner_arms arms locked still fit
+    inner_what (tree.logical_if f s) locked still fit = tt
+    inner_what (tree.do_loop l) locked still fit = tt
+    inner_what (tree.call x es) locked still fit = tt
+    inner_what (tree.goto l) locked still fit = tt
+    inner_what tree.continue locked still fit = tt
+    inner_what tree.return locked still fit = tt
+    inner_what (tree.stop text) locked still fit = tt
+    inner_what (tree.print es) locked still fit = tt
+    inner_what (tree.read es) locked still fit = tt
+
+    inner_arms : (arms : ArmTrees) (locked : Locks) (still : ℕ → Bool) → Fits locked still → OfArms (BodyOf locked still) arms
+    inner_arms tree.no_arms locked still fit = tt
+    inner_arms (tree.more_arms a rest) locked still fit = inner_arm a locked still fit
+
+    inner_arm : (a : ArmTree) (locked : Locks) (still : ℕ → Bool) → Fits locked still → OfArm (BodyOf locked still) a
+    inner_arm (tree.arm f body) locked still fit = λ L P z back h pl.
+        body_from C m cs r covers scalar sc at far place L body back P locked still z h pl
+        (λ jump st pe. row_back body body L jump locked still fit None P z z back st (inc_all m cs false body) refl h pe)
+        (λ pa. each_good body body false P locked still fit z h 0 (inc_all m cs false body) pa)
+
+    row_back : (ss all : StmtTrees) (L : ℕ) (jump : ℕ → Plan) (locked : Locks) (still : ℕ → Bool) → Fits locked still → (acc : Option Transformer) (P : System) (z0 z : Store) → goes_back L ss ≡ true → Straight C m cs r covers scalar sc at far place all false ss → Inc m cs false ss all → SoFar e still acc z0 z → Hs P z → PlacedEach r covers m cs scalar ss false P → Good C (in_order jump (parts all sc at locked) (parts ss sc at locked)) z (Row_back C m cs r covers scalar sc at far place L ss all acc P still z0)
+    row_back tree.no_stmts all L jump locked still fit acc P z0 z back st inc sf h pl = absurd (true≢false (sym back))
+    row_back (tree.more_stmts s tree.no_stmts) all L jump locked still fit acc P z0 z back st inc sf h pl =
+        last_back C m cs r covers scalar sc at far place L all jump locked still acc P z0 z s back st inc sf h (stmt_good s false locked still fit P z h pl.0)
+    row_back (tree.more_stmts s (tree.more_stmts r2 rest)) all L jump locked still fit acc P z0 z back st inc sf h pl =
+        let o = others_first (goes_to (L ∷ [])) s r2 rest back in
+        one_back C m cs r covers scalar sc at far place L s r2 rest all jump locked still acc P z0 z st inc sf (other_leads L s o.0) (stmt_good s false locked still fit P z h pl.0)
+        (λ y sf' h'. row_back (tree.more_stmts r2 rest) all L jump locked still fit (Some (added acc (stmt_transformer s m cs false))) (after s m r.transformer P) z0 y o.1 (st.0, λ k. absurd (true≢false (sym k))) (inc_next m cs false s (tree.more_stmts r2 rest) all inc) sf' h' pl.1)
 
     else_good : (other : ElseTree) (locked : Locks) (still : ℕ → Bool) → Fits locked still → (P : System) (z : Store) → Hs P z → PlacedElse r covers m cs scalar other P → Good C (else_plan other sc at locked) z (Ends_as (else_transformer other m cs) (after_else other m r.transformer P) (λ ls. else_leads other ls) (else_has is_return other) false still z)
     else_good tree.no_else locked still fit P z hp pl = good_ends C Normal z _ (none_done P still z hp)

@@ -6,7 +6,6 @@ use Rattle.affine_systems.specs.Calls.{meet}
 use Rattle.f77_ast.specs.Trees.{ExprTree, ExprTrees, StmtTree, WhatTree, ArmTree, ArmTrees, ElseTree, LoopTree, StmtTrees}
 use Rattle.f77_ast.specs.Trees as tree
 use Rattle.f77_ast.specs.Places.{Names}
-use Rattle.f77_ast.specs.declared.variable.Unit.{Unit as BlockUnit}
 use Rattle.affine_forms.specs.declared.affine.Affine.{Affine}
 use Rattle.affine_forms.specs.Scalars.{is_cell}
 use Rattle.affine_forms.specs.Forms.{affine_of}
@@ -25,7 +24,8 @@ use Rattle.preconditions.specs.transformers.Simple.{becomes, named_cells}
 use Rattle.preconditions.specs.transformers.Jumps.{is_end, unstructured}
 use Rattle.preconditions.specs.transformers.Lists.{followed_by, in_order, in_any_order, list_of}
 use Rattle.preconditions.specs.transformers.Loops.{loop_parts}
-use Rattle.preconditions.specs.transformers.Statement.{parts_do, where_holds, if_does, choice, without_arm, without_arms, stmt_transformer, what_transformer, each_transformer, arm_transformers, arm_transformer, else_transformer, body_transformer}
+use Rattle.preconditions.specs.transformers.Whiles.{WhileTree, while_in, all_before_last, while_body, while_iteration, while_or}
+use Rattle.preconditions.specs.transformers.Statement.{parts_do, where_holds, if_does, choice, without_arm, without_arms, stmt_transformer, what_transformer, each_transformer, arm_transformers, arm_transformer, inner_transformers, inner_of_stmt, inner_of_what, inner_of_arms, inner_of_arm, arm_list_transformer, else_transformer, body_transformer}
 use Rattle.preconditions.specs.transformers.Given.{Callees}
 use Rattle.laws_analyses.specs.Statements.Activation.{NamesFit}
 use Rattle.fx_lists.proofs.Numbers.{same_is as nat_same}
@@ -107,6 +107,23 @@ module _ (e : Scene) where
   test_tracks : (p : System) (t : Transformer) → T t.cells → T (followed (test p) t).cells
   test_tracks p t f = joined [] t.cells none f
 
+  before_last_tracks : (ts : List Transformer) → AllTrack ts → AllTrack (all_before_last ts)
+  before_last_tracks [] g = tt
+  before_last_tracks (t ∷ []) g = tt
+  before_last_tracks (t ∷ u ∷ ts) g = (g.0, before_last_tracks (u ∷ ts) g.1)
+
+  -- one iteration of a DO WHILE, and all of it
+  pub while_tracks : (m : ScopeTree) (w : WhileTree) (ts : List Transformer) → AllTrack ts → T (while_iteration m w ts).cells
+  while_tracks m w ts g = test_tracks (condition_of m.scalars w.test).yes (while_body w.body ts) (go (unstructured false w.body))
+    where
+      go : (b : Bool) → T (if b then in_any_order ts else in_order (all_before_last ts)).cells
+      go true = all_track ts g
+      go false = in_order_tracks (all_before_last ts) (before_last_tracks ts g)
+
+  while_or_tracks : (o : Option WhileTree) (m : ScopeTree) (ts : List Transformer) (t : Transformer) → AllTrack ts → T t.cells → T (while_or o m ts t).cells
+  while_or_tracks None m ts t g f = f
+  while_or_tracks (Some w) m ts t g f = joined (while_iteration m w ts).cells [] (while_tracks m w ts g) none
+
 module _ (e : Scene) (w : Names) (m : ScopeTree) (nf : NamesFit w m) (is : (c : ℕ) → is_cell m.tracked c ≡ true → e.tracked c ≡ true) (back : (c : ℕ) → e.tracked c ≡ is_cell m.tracked c) (cs : Callees) (calls : (x : List ℕ) (es : ExprTrees) → Tracks e (call_transformer m (cs x) es).cells) where
   named_tracked : (a : ExprTree) (d : ℕ) → named_cell m.scalars a ≡ Some d → e.tracked d ≡ true
   named_tracked (tree.int n) d q = absurd (grind arith)
@@ -170,7 +187,38 @@ module _ (e : Scene) (w : Names) (m : ScopeTree) (nf : NamesFit w m) (is : (c : 
     arms_track (tree.more_arms a rest) t f before = (arm_tracks a before, arms_track rest t f (without_arm a m before))
 
     arm_tracks : (a : ArmTree) (before : System) → Tracks e (arm_transformer a m cs before).cells
-    arm_tracks (tree.arm f body) before = test_tracks e (meet before (condition_of m.scalars f).yes) (list_of false body (each_transformer body m cs false)) (list_of_tracks e false body (each_transformer body m cs false) (each_tracks body false))
+    arm_tracks (tree.arm f body) before =
+        test_tracks e (meet before (condition_of m.scalars f).yes) (arm_list_transformer body m cs)
+        (while_or_tracks e (while_in body) m (inner_transformers body m cs) (list_of false body (each_transformer body m cs false)) (inner_track body)
+        (list_of_tracks e false body (each_transformer body m cs false) (each_tracks body false)))
+
+    -- those of the labelled block IF of a DO WHILE
+    pub inner_track : (ss : StmtTrees) → AllTrack e (inner_transformers ss m cs)
+    inner_track tree.no_stmts = tt
+    inner_track (tree.more_stmts s rest) = inner_stmt s
+
+    inner_stmt : (s : StmtTree) → AllTrack e (inner_of_stmt s m cs)
+    inner_stmt (tree.stmt n label v) = inner_what v
+
+    inner_what : (v : WhatTree) → AllTrack e (inner_of_what v m cs)
+    inner_what (tree.assign a b) = tt
+    inner_what (tree.block_if arms other) = inner_arms arms
+    inner_what (tree.logical_if f s) = tt
+    inner_what (tree.do_loop l) = tt
+    inner_what (tree.call x es) = tt
+    inner_what (tree.goto l) = tt
+    inner_what tree.continue = tt
+    inner_what tree.return = tt
+    inner_what (tree.stop text) = tt
+    inner_what (tree.print es) = tt
+    inner_what (tree.read es) = tt
+
+    inner_arms : (arms : ArmTrees) → AllTrack e (inner_of_arms arms m cs)
+    inner_arms tree.no_arms = tt
+    inner_arms (tree.more_arms a rest) = inner_arm a
+
+    inner_arm : (a : ArmTree) → AllTrack e (inner_of_arm a m cs)
+    inner_arm (tree.arm f body) = each_tracks body false
 
     pub else_tracks : (other : ElseTree) → Tracks e (else_transformer other m cs).cells
     else_tracks tree.no_else = none e

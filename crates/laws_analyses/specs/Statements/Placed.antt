@@ -1,14 +1,15 @@
 -- That results at statements are the defined ones, statement by statement.
-use Rattle.std.specs.Prelude.{◌≡◌, ℕ, ◌<◌, Bool, true, false, ◌&&◌, List}
+use Rattle.std.specs.Prelude.{◌≡◌, ℕ, ◌<◌, Bool, true, false, ◌&&◌, List, Option, Some, None}
 use Rattle.affine_systems.specs.declared.row.System.{System}
 use Rattle.f77_ast.specs.Trees.{ExprTree, ExprTrees, StmtTree, WhatTree, ArmTree, ArmTrees, ElseTree, LoopTree, StmtTrees}
 use Rattle.f77_ast.specs.Trees as tree
 use Rattle.preconditions.specs.transformer_algebra.declared.transformer.Transformer.{Transformer}
 use Rattle.preconditions.specs.call_translation.Scopes.{ScopeTree}
 use Rattle.preconditions.specs.transformers.Jumps.{is_end, unstructured}
+use Rattle.preconditions.specs.transformers.Whiles.{WhileTree, while_in}
 use Rattle.preconditions.specs.transformers.Statement.{what_transformer}
 use Rattle.preconditions.specs.transformers.Given.{Callees}
-use Rattle.preconditions.specs.Statement.{if_true, past_arm, past_arms, each_iteration, throughout, after}
+use Rattle.preconditions.specs.Statement.{if_true, past_arm, past_arms, each_iteration, throughout, while_begins, after}
 use Rattle.laws_analyses.specs.Statements.Targets.{has_targets}
 
 -- results of a module by the numbers of its statements
@@ -19,6 +20,11 @@ pub record Found : Type 0 where
 abbrev pub Either : Bool → Type 0 → Type 0 → Type 0
 Either true A B = A
 Either false A B = B
+
+-- A of a list of a DO WHILE, B of another one
+abbrev pub PlacedOr : Option WhileTree → Type 0 → Type 0 → Type 0
+PlacedOr None A B = B
+PlacedOr (Some w) A B = A
 
 -- covers: what a CALL owes, where this holds before it
 module _ (r : Found) (covers : List ℕ → ExprTrees → System → Type 0) (m : ScopeTree) (cs : Callees) (scalar : List ℕ → Bool) where
@@ -61,7 +67,9 @@ module _ (r : Found) (covers : List ℕ → ExprTrees → System → Type 0) (m 
     PlacedArms (tree.more_arms a rest) p = PlacedArm a p × PlacedArms rest (past_arm a m p)
 
     pub PlacedArm : ArmTree → System → Type 0
-    PlacedArm (tree.arm e body) p = Either (unstructured false body) (PlacedAll body false (throughout false body r.transformer (if_true m e p))) (PlacedEach body false (if_true m e p))
+    PlacedArm (tree.arm e body) p =
+        PlacedOr (while_in body) (PlacedAll body false (while_begins (while_in body) m r.transformer (if_true m e p)))
+        (Either (unstructured false body) (PlacedAll body false (throughout false body r.transformer (if_true m e p))) (PlacedEach body false (if_true m e p)))
 
     pub PlacedElse : ElseTree → System → Type 0
     PlacedElse tree.no_else p = Unit {0}
@@ -75,3 +83,7 @@ module _ (r : Found) (covers : List ℕ → ExprTrees → System → Type 0) (m 
   -- a list; `whole` says that it is the body of the module
   abbrev pub PlacedList : StmtTrees → Bool → System → Type 0
   PlacedList body whole p = Either (unstructured whole body) (PlacedAll body whole (throughout whole body r.transformer p)) (PlacedEach body whole p)
+
+  -- the statements of an arm, where its test is true
+  abbrev pub PlacedArmList : StmtTrees → System → Type 0
+  PlacedArmList body p = PlacedOr (while_in body) (PlacedAll body false (while_begins (while_in body) m r.transformer p)) (PlacedList body false p)

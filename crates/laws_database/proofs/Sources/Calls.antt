@@ -6,8 +6,8 @@ use Rattle.f77_ast.specs.declared.places.Spot.{Spot}
 use Rattle.f77_ast.specs.Hidden.{is_hidden, carried_by, or_carrier, the_carrier, carrier_in}
 use Rattle.f77_ast.specs.Shapes.{IsLeaf, walk_stmt, walk_what, walk_body, walk_arms, walk_else, walk_list}
 use Rattle.f77_ast.proofs.WalkLaws.{Induction, every_list, leaf_walk}
-use Rattle.f77_ast.specs.StatementNumbers.{stmt_numbers, part_numbers, list_numbers, arms_numbers, else_numbers, loop_numbers}
-use Rattle.f77_ast.specs.Trees.{ExprTree, StmtTree, stmt, WhatTree, assign, block_if, logical_if, do_loop, call, goto, continue, return, stop, print, read, arm, ArmTrees, no_arms, more_arms, ElseTree, no_else, otherwise, LoopTree, loop, StmtTrees, no_stmts, more_stmts}
+use Rattle.f77_ast.specs.StatementNumbers.{stmt_numbers, list_numbers, arms_numbers, else_numbers}
+use Rattle.f77_ast.specs.Trees.{StmtTree, stmt, WhatTree, assign, block_if, logical_if, do_loop, call, goto, continue, return, stop, print, read, ArmTrees, more_arms, ElseTree, no_else, StmtTrees, no_stmts, more_stmts}
 use Rattle.f77_ast.specs.DeclTrees.{ParsedTree}
 use Rattle.f77_ast.specs.PlainStmt.{stmts_of}
 use Rattle.f77_ast.specs.Symbols.{SymbolTree}

@@ -1,18 +1,14 @@
 -- The texts of the modules of a source: each is read as its module, its lines counted from where the text begins.
-use Rattle.std.proofs.Common.{◌≡◌, ℕ, List, [], ◌∷◌, ◌++◌, map, Some, Ok, refl, sym, ap, ◌∙◌, subst}
+use Rattle.std.proofs.Common.{◌≡◌, ℕ, List, [], ◌∷◌, ◌++◌, map, Some, refl, sym, ap, subst}
 use Rattle.std.specs.Prelude.{slice_get, option_to_list}
 use Rattle.f77_ast.specs.DeclTrees.{ParsedTree}
-use Rattle.f77_parser.specs.Gives.{and_then}
-use Rattle.f77_parser.specs.Modules.{parse_of}
 use Rattle.f77_ast.specs.Symbols.{SymbolTree}
-use Rattle.storage_layout.specs.Symbols.{symbols_of}
 use Rattle.fixed_form.specs.declared.source.Piece.{Piece}
 use Rattle.laws_programs.specs.roundtrip_programs.Statements.Formed.{Each}
-use Rattle.laws_programs.specs.roundtrip_programs.Texts.Texts.{IsReadAs}
 use Rattle.laws_programs.specs.roundtrip_programs.Laws.{tree_of, TablesIgnorePlaces}
 use Rattle.laws_programs.specs.roundtrip_programs.Programs.{AreTables}
 use Rattle.laws_programs.specs.roundtrip_programs.Pieces.Laws.{ArePiecesOf}
-use Rattle.session_texts.specs.pipsmake_meaning.Texts.{ModuleText, ReadModule, lines_or, with_table, one_module, module_read, modules_in, trees_in, tables_in}
+use Rattle.session_texts.specs.pipsmake_meaning.Texts.{ModuleText, ReadModule, module_read, modules_in, trees_in, tables_in}
 use Rattle.session_texts.specs.Sources.{named_texts}
 use Rattle.laws_database.specs.Sources.Whole.{lines_before}
 use Rattle.laws_database.proofs.Sources.Calls.{CallsHaveLines, calls_have_lines}

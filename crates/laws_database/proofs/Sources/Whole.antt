@@ -1,5 +1,5 @@
 -- A source text is refused, or its modules link, as the whole text.
-use Rattle.std.proofs.Common.{◌≡◌, ℕ, List, [], ◌∷◌, Option, Some, None, Result, Ok, Err, refl, sym, ap, ◌∙◌}
+use Rattle.std.proofs.Common.{◌≡◌, ℕ, List, Option, Some, None, Result, Ok, Err, refl, sym, ap, ◌∙◌}
 use Rattle.std.specs.Prelude.{option_map}
 use Rattle.fixed_form.specs.declared.line.Lines.{Lines}
 use Rattle.fixed_form.specs.Reading.{reading}
@@ -8,7 +8,6 @@ use Rattle.f77_parser.specs.Gives.{Refused, and_then}
 use Rattle.f77_parser.specs.Modules.{parse_of}
 use Rattle.f77_ast.specs.Symbols.{SymbolTree}
 use Rattle.fx_lists.specs.declared.refusal.Refusal.{Refusal}
-use Rattle.storage_layout.specs.Symbols.{symbols_of}
 use Rattle.call_graph.specs.declared.graph.Graph.{Graph}
 use Rattle.call_graph.specs.declared.refusal.Fault.{Fault}
 use Rattle.call_graph.specs.declared.refusal.Fault.TheVariants as fault
@@ -17,10 +16,9 @@ use Rattle.call_graph.specs.Modules.{too_many, name_twice, main_twice, no_main}
 use Rattle.call_graph.specs.Links.{joined_of, link_of}
 use Rattle.fixed_form.specs.Pieces.{pieces_of}
 use Rattle.laws_programs.specs.roundtrip_programs.Laws.{TablesIgnorePlaces, GraphsIgnorePlaces}
-use Rattle.laws_programs.specs.roundtrip_programs.Programs.{AreTables}
 use Rattle.laws_programs.specs.roundtrip_programs.Pieces.Laws.{PiecesAreModules}
 use Rattle.session_texts.specs.pipsmake_meaning.Texts.{ModuleText, lines_or, links_in, trees_in}
-use Rattle.session_texts.specs.Sources.{refused, refusal_for, table_or, tables_of, source_refusal, unless_refused, named_texts, texts_with, texts_of_lines, source_modules}
+use Rattle.session_texts.specs.Sources.{refused, refusal_for, tables_of, source_refusal, unless_refused, named_texts, texts_with, texts_of_lines, source_modules}
 use Rattle.laws_database.specs.Sources.Whole.{linked_or, linked_modules, fault_in, in_source, linked_texts, source_links, LinkedAlike, SomeProgram, LinkedIsAccepted}
 use Rattle.laws_database.proofs.Sources.Moved.{moved_fault, wrong, trees-same, link_moved, fault_moved}
 use Rattle.laws_database.proofs.Sources.Pieces.{before_of, pieces_read}

@@ -1,16 +1,16 @@
 -- The marks of a module are of its DO statements, in the order of the text, and their numbers go up. A statement that stands for another (f77_ast, specs/Hidden) has the DO statements of that one.
-use Rattle.std.proofs.Common.{◌≡◌, ℕ, ◌+◌, ◌<◌, ◌≤◌, Bool, true, false, List, [], ◌∷◌, ◌++◌, map, Option, None, arith, refl, sym, ap, ap₂, ◌∙◌, subst, append_assoc, append-nil}
+use Rattle.std.proofs.Common.{◌≡◌, ℕ, ◌+◌, ◌<◌, ◌≤◌, Bool, true, false, List, [], ◌∷◌, ◌++◌, map, Option, None, arith, refl, sym, ap, ap₂, ◌∙◌, subst, append-nil}
 use Rattle.std.specs.Prelude.{if◌then◌else◌}
 use Rattle.std.proofs.lemmas.List.{map-append}
-use Rattle.f77_ast.specs.Trees.{ExprTree, ExprTrees, StmtTree, WhatTree, ArmTrees, ElseTree, LoopTree, StmtTrees}
+use Rattle.f77_ast.specs.Trees.{ExprTree, StmtTree, WhatTree, ArmTrees, ElseTree, LoopTree, StmtTrees}
 use Rattle.f77_ast.specs.Trees as tree
 use Rattle.f77_ast.specs.DeclTrees.{ModuleTree}
 use Rattle.f77_ast.specs.Shapes.{Walk, IsLeaf, walk_stmt, walk_what, walk_body, walk_arms, walk_else, walk_list}
 use Rattle.f77_ast.specs.declared.results.At.{At}
 use Rattle.f77_ast.specs.declared.marks.Mark.{Mark}
-use Rattle.f77_parser.specs.Elaborated.{Meant, meant_in, value_block, assigned, while_label, and_then_last, while_block, hidden_to, hidden_arms, hidden_in, elaborated_stmt, elaborated_what, elaborated_while, elaborated_loop, elaborated_arms, elaborated_else, elaborated_in, elaborated}
+use Rattle.f77_parser.specs.Elaborated.{Meant, meant_in, value_block, assigned, while_label, and_then_last, while_block, hidden_to, hidden_arms, hidden_in, elaborated_stmt, elaborated_what, elaborated_while, elaborated_arms, elaborated_else, elaborated_in, elaborated}
 use Rattle.loop_marker.specs.Marks.{the_marks}
-use Rattle.laws_programs.specs.roundtrip_programs.ModuleTexts.Folded.{folded, OnePart, WhilesFitArms, WhilesFitElse, WhilesFitBody, WhilesFit, WhileFits, WhileFitsBy}
+use Rattle.laws_programs.specs.roundtrip_programs.ModuleTexts.Folded.{folded, OnePart, WhilesFitArms, WhilesFitElse, WhilesFit, WhileFits, WhileFitsBy}
 use Rattle.laws_programs.specs.roundtrip_programs.ModuleTexts.Numbered.{last_of, last_by, last_body, last_in, last_arms, last_else, IsNumbered, NumberedBelow, NumberedArms, NumberedElse, AreNumbered, IsWell}
 use Rattle.laws_lines.specs.Marks.Marked.{the_loops, loops_in}
 

@@ -5,7 +5,7 @@ use Rattle.f77_ast.specs.DeclTrees.{ParsedTree}
 use Rattle.f77_parser.specs.Modules.{parse_of}
 use Rattle.system_text.specs.Reading.{Bytes}
 use Rattle.laws_programs.specs.roundtrip_programs.Texts.Texts.{IsReadAs}
-use Rattle.laws_lines.specs.Marks.Marked.{all_attached}
+use Rattle.laws_lines.specs.Marks.Marked.{all_attached, all_with_functions}
 use Rattle.laws_lines.specs.Marks.Laws.{ReadingIsUnique}
 
 pub one_reading : (text : Bytes) (ps qs : List ParsedTree) → IsReadAs text ps → IsReadAs text qs → ps ≡ qs
@@ -20,5 +20,6 @@ reading_is_unique text ps qs ms ns h k =
     let p : ps ≡ qs = one_reading text ps qs h.read k.read in
     let e : Some h.directives ≡ Some k.directives = sym h.found ∙ k.found in
     let d : h.directives ≡ k.directives = cc in
-    let m = sym h.marked ∙ ap (λ (x : List ParsedTree). all_attached x h.directives) p ∙ ap (all_attached qs) d ∙ k.marked in
-    record { modules = p; marks = ap (λ x. x.0) m }
+    let a = sym h.attached ∙ ap (λ (x : List ParsedTree). all_attached x h.directives) p ∙ ap (all_attached qs) d ∙ k.attached in
+    let n : h.named ≡ k.named = ap (λ x. x.0) a in
+    record { modules = p; marks = sym h.marked ∙ ap (λ (x : List ParsedTree). all_with_functions x h.named) p ∙ ap (all_with_functions qs) n ∙ k.marked }

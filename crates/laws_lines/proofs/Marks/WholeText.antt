@@ -1,6 +1,6 @@
 -- The written text of a program is read with the marks that it was written with.
 use Rattle.std.proofs.Common.{inl, inr, ◌≡◌, ℕ, ◌+◌, Bool, true, false, List, [], ◌∷◌, ◌++◌, map, refl, sym, ap, ◌∙◌, subst, append_assoc, append-nil, Option, Some, None, if◌then◌else◌, not, eq-eqb}
-use Rattle.std.specs.Prelude.{nat_eq, drop, ◌||◌, codes}
+use Rattle.std.specs.Prelude.{nat_eq, drop, ◌&&◌, ◌||◌, codes}
 use Rattle.std.specs.List.{list_all, list_any, starts_with}
 use Rattle.std.proofs.lemmas.List.Folds.{list_any-append}
 use Rattle.std.proofs.lemmas.Bool.{and_from, and_right, or_left, or_right, or_parts}
@@ -40,7 +40,7 @@ use Rattle.laws_programs.proofs.RoundtripPrograms.Texts.RowsBack.{read_rows, lin
 use Rattle.laws_programs.proofs.RoundtripPrograms.Texts.Standing.{spots_of, built-spots}
 use Rattle.laws_programs.proofs.RoundtripPrograms.Texts.Whole.{IsSound, plain, all-sound, all-rows, closing-kept, all-text, again_of, all_again, again-written, parsed-back}
 use Rattle.laws_lines.specs.Marks.Directives.{is_sentinel, Directive, directives_in, directives_from}
-use Rattle.laws_lines.specs.Marks.Marked.{Attached, attached, all_attached, loops_in, AreOfLoops}
+use Rattle.laws_lines.specs.Marks.Marked.{Attached, attached, all_attached, loops_in, with_functions, all_with_functions, AreOfLoops}
 use Rattle.laws_lines.specs.Marks.Lines.{AreNumberedMarks}
 use Rattle.laws_lines.specs.Marks.MarkedLoops.{as_parallel, parallel_in}
 use Rattle.laws_lines.specs.Marks.WholeLaws.{IsMarked, with_marks, MarkedBack, MarksReadBack}
@@ -240,6 +240,12 @@ among names before (m ∷ ms) =
     with_one (before ++ m.id ∷ numbers ms) names m.id m.value (parallel_in names ms) (member m.id before (numbers ms))
     (subst (λ (ls : List ℕ). AreAmong ls (parallel_in names ms)) (append_assoc before (m.id ∷ []) (numbers ms)) (among names (before ++ m.id ∷ []) ms))
 
+-- also with the names that the text does not say
+named_among : (ls : List ℕ) (t : ModuleTree) (xs : List (At (List Bytes)))
+    → list_all (λ (x : At (List Bytes)). list_any (nat_eq x.id) ls) (with_functions t xs) ≡ list_all (λ (x : At (List Bytes)). list_any (nat_eq x.id) ls) xs
+named_among ls t [] = refl
+named_among ls t (x ∷ xs) = ap (λ (b : Bool). list_any (nat_eq x.id) ls && b) (named_among ls t xs)
+
 module _ (names : ParsedTree → List Bytes) (why : Bool) (marks : ParsedTree → List (At Mark)) (others : ParsedTree → List Added) where
   abbrev added : ParsedTree → List Added
   added p = with_marks names why marks others p
@@ -256,6 +262,9 @@ module _ (names : ParsedTree → List Bytes) (why : Bool) (marks : ParsedTree �
 
   abbrev parallel_of : ParsedTree → List (At (List Bytes))
   parallel_of p = parallel_in (names p) (marks p)
+
+  abbrev marked_of : ParsedTree → List (At (List Bytes))
+  marked_of p = with_functions p.module_read (parallel_of p)
 
   loops_of : (p : ParsedTree) → IsSound p → Marked p → HaveLoops (statements_of p.module_read) (numbers (marks p))
   loops_of p s m = subst (HaveLoops (statements_of p.module_read)) (sym m.marking.each) (module_loops p.module_read s.well)
@@ -293,17 +302,26 @@ module _ (names : ParsedTree → List Bytes) (why : Bool) (marks : ParsedTree �
       ∙ ap (λ (x : Attached). (x.0 ∷ (all_attached (all_again added closing k ps) x.1).0, (all_attached (all_again added closing k ps) x.1).1)) mine
       ∙ ap (λ (x : List (List (At (List Bytes))) × List Directive). (parallel_of p ∷ x.0, x.1)) (attach_all closing ps k s.others m.others)
 
-  all_loops : (closing : List Bytes) (ps : List ParsedTree) (n : ℕ) → Each IsSound ps → Each Marked ps → AreOfLoops (all_again added closing n ps) (map parallel_of ps)
+  all_named : (closing : List Bytes) (ps : List ParsedTree) (n : ℕ) → Each IsSound ps → all_with_functions (all_again added closing n ps) (map parallel_of ps) ≡ map marked_of ps
+  all_named closing [] n s = refl
+  all_named closing (p ∷ ps) n s =
+      let rows = module_rows added p in
+      let k = lines_behind n rows in
+      let again = built_again p.module_read _ (read_rows n rows) s.first.well (again-written added n p) in
+      ap (λ (t : ModuleTree). with_functions t (parallel_of p) ∷ all_with_functions (all_again added closing k ps) (map parallel_of ps)) again
+      ∙ ap (λ (x : List (List (At (List Bytes)))). marked_of p ∷ x) (all_named closing ps k s.others)
+
+  all_loops : (closing : List Bytes) (ps : List ParsedTree) (n : ℕ) → Each IsSound ps → Each Marked ps → AreOfLoops (all_again added closing n ps) (map marked_of ps)
   all_loops closing [] n s m = tt
   all_loops closing (p ∷ ps) n s m =
       let rows = module_rows added p in
       let again = built_again p.module_read _ (read_rows n rows) s.first.well (again-written added n p) in (
-        subst (λ (t : ModuleTree). AreAmong (loops_in t.body) (parallel_of p)) (sym again)
-            (subst (λ (ls : List ℕ). AreAmong ls (parallel_of p)) m.first.marking.each (among (names p) [] (marks p))),
+        subst (λ (t : ModuleTree). AreAmong (loops_in t.body) (marked_of p)) (sym again)
+            (named_among (loops_in p.module_read.body) p.module_read (parallel_of p) ∙ subst (λ (ls : List ℕ). AreAmong ls (parallel_of p)) m.first.marking.each (among (names p) [] (marks p))),
         all_loops closing ps (lines_behind n rows) s.others m.others,
       )
 
-  read_back : (ps : List ParsedTree) → AreParsed ps → AllPassedOver added ps → Each Marked ps → MarkedBack (modules_text added ps) ps (map parallel_of ps)
+  read_back : (ps : List ParsedTree) → AreParsed ps → AllPassedOver added ps → Each Marked ps → MarkedBack (modules_text added ps) ps (map marked_of ps)
   unfolding parsed-back
   read_back ps h a m =
       let s = all-sound ps h in
@@ -321,7 +339,9 @@ module _ (names : ParsedTree → List Bytes) (why : Bool) (marks : ParsedTree �
               ap directives_in (all-text added ps h s)
               ∙ ap (directives_from 1 []) (lines_are rows closing good (plain closing ends))
               ∙ rows_found rows (all_options ps) closing 1 good (all_rows_are ps s m) (kept_plain closing ends);
-          marked = attach_all (kept closing) ps 1 s m;
+          named = map parallel_of ps;
+          attached = attach_all (kept closing) ps 1 s m;
+          marked = all_named (kept closing) ps 1 s;
           loops = all_loops (kept closing) ps 1 s m;
         };
         same = back.same;

@@ -1,12 +1,9 @@
 -- What is read of a written text is written as the same text, where the same lines are added.
-use Rattle.std.proofs.Common.{◌≡◌, ℕ, ◌+◌, List, [], ◌∷◌, ◌++◌, length, refl, sym, ap, ap₂, ◌∙◌, subst, arith, append-nil, Bool, true, false}
-use Rattle.std.specs.Prelude.{Option, Some, None, nat_eq, if◌then◌else◌}
-use Rattle.std.proofs.lemmas.Bool.{and_from}
-use Rattle.std.proofs.lemmas.Bool.Decides.{nat_tests}
+use Rattle.std.proofs.Common.{◌≡◌, ℕ, ◌+◌, List, [], ◌∷◌, ◌++◌, length, refl, sym, ap, ap₂, ◌∙◌, subst, append-nil, Bool, true, false}
+use Rattle.std.specs.Prelude.{Option, Some, None, if◌then◌else◌}
 use Rattle.f77_ast.specs.declared.places.Part.{Part}
 use Rattle.f77_ast.specs.declared.places.Spot.{Spot}
 use Rattle.f77_ast.specs.DeclTrees.{ModuleTree, ParsedTree}
-use Rattle.f77_statements.specs.Phrases.{end_module}
 use Rattle.f77_structure.specs.Lists.{is_none_of}
 use Rattle.f77_parser.specs.Statements.{StatementTree}
 use Rattle.f77_parser.specs.Building.{build_module}
@@ -30,7 +27,6 @@ use Rattle.laws_programs.proofs.RoundtripPrograms.ModuleTexts.ModulePages.{writt
 use Rattle.laws_programs.specs.roundtrip_programs.Texts.Texts.{IsPassedOver, text_of, modules_text}
 use Rattle.laws_programs.specs.roundtrip_programs.Texts.Laws.{AllPassedOver}
 use Rattle.laws_programs.proofs.RoundtripPrograms.Texts.Read.{IsSourced, IsParsed, AreParsed, all-parsed}
-use Rattle.laws_programs.proofs.RoundtripPrograms.Texts.Sources.{AreKept}
 use Rattle.laws_programs.proofs.RoundtripPrograms.Texts.SpotsKept.{SpotsKept, comments-kept, behind-kept, inner-behind}
 use Rattle.laws_programs.proofs.RoundtripPrograms.Texts.Rows.{added_lines, lines_at, row_of, rows_of, module_rows, all_rows, last_closing}
 use Rattle.laws_programs.proofs.RoundtripPrograms.Texts.RowsBack.{read_rows, line_behind, lines_behind}
@@ -40,10 +36,8 @@ use Rattle.laws_lines.specs.Marks.WholeLaws.{TextsAreWrittenAgain}
 use Rattle.laws_lines.proofs.Marks.Unique.{one_reading}
 use Rattle.laws_lines.proofs.Marks.InnerSpots.{Bare, InnerHolds, AllInner, ArePhrases, built_bare}
 use Rattle.f77_printer.proofs.AddedLemmas.{is_part_self as same_part}
-use Rattle.laws_programs.proofs.RoundtripPrograms.Texts.SameText.{kept-same as all_kept, kept-append as kept_append, no-inner as no_inner, inner-left as inner_left, own-behind as own_behind, at-dropped as at_dropped, AllDropped, none-kept as none_kept, added-dropped as added_dropped}
-use Rattle.fx_lists.proofs.Lists.{append-by as append_by, either-nothing as nothing, kept-cons as kept_cons}
+use Rattle.laws_programs.proofs.RoundtripPrograms.Texts.SameText.{kept-same as all_kept, kept-append as kept_append, no-inner as no_inner, own-behind as own_behind, at-dropped as at_dropped, AllDropped, none-kept as none_kept, added-dropped as added_dropped}
 use Rattle.fx_lists.proofs.Booleans.{chosen}
-use Rattle.fx_lists.proofs.Numbers.{same_number}
 
 -- ---- spots of which the statement in a logical IF has no comments
 

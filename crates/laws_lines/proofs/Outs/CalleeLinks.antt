@@ -1,6 +1,6 @@
 -- The regions of the callee that a region of the caller is: their variables have names in the callee, and their equations join both sides alone.
-use Rattle.std.proofs.Common.{◌≡◌, ℕ, suc, ◌+◌, ◌-◌, ◌<◌, ◌≤◌, Bool, true, false, List, [], ◌∷◌, ◌++◌, length, Option, Some, None, pos, arith, refl}
-use Rattle.std.specs.Prelude.{if◌then◌else◌, ◌&&◌, map, bytes_eq, nat_le, option_to_list}
+use Rattle.std.proofs.Common.{◌≡◌, ℕ, suc, ◌+◌, ◌-◌, ◌<◌, ◌≤◌, Bool, true, false, List, [], ◌∷◌, length, Option, Some, None, pos, arith, refl}
+use Rattle.std.specs.Prelude.{if◌then◌else◌, ◌&&◌, map, bytes_eq, nat_le}
 use Rattle.std.specs.List.{AllByRecursion}
 use Rattle.std.proofs.lemmas.Bool.Decides.{nat_tests}
 use Rattle.affine_systems.specs.declared.row.Var.{Var}
@@ -40,7 +40,7 @@ use Rattle.in_out_regions.specs.call_equations.Links as outward
 use Rattle.in_out_regions.specs.call_equations.Links.{by_position, actual_bounds, whole_by_position, aligned_or, bounds_unless_lines, variable_link, subscripts_link, is_constant, variable_at, element_at, variable_of, element_of, expr_link, actual_link, by_unit, like_or_block, place_link, symbol_link, link_of}
 use Rattle.in_out_regions.specs.region_translation.declared.links.CalleeLink.{CalleeLink}
 use Rattle.in_out_regions.specs.region_translation.declared.units.Units.{Units}
-use Rattle.in_out_regions.specs.region_translation.Names.{callee_name, turned_name, turned_names, turned_row, turned_normal, turned_rows}
+use Rattle.in_out_regions.specs.region_translation.Names.{turned_name, turned_names, turned_normal, turned_rows}
 use Rattle.in_out_regions.specs.region_translation.Units.{subscript, element_place, unit_place, units_of, meet, are_covered}
 use Rattle.in_out_regions.specs.region_translation.Values.{is_scalar_dummy}
 use Rattle.in_out_regions.specs.region_translation.CalleePieces.{piece_in_callee}
@@ -57,7 +57,7 @@ use Rattle.laws_lines.proofs.Regions.PutVars.{NormalGiven, normal_given}
 use Rattle.laws_lines.proofs.Regions.RegionVars.{few_map, IsFine, AreFine, united_fine}
 use Rattle.laws_lines.proofs.Regions.AccessVars.{IsNamedBy, named_number, FewBounds}
 use Rattle.laws_lines.proofs.Regions.CalleeVars.{IsLinkedOf}
-use Rattle.laws_lines.proofs.Regions.LinkVars.{limited_of, sum_form, offset_form, before_form, MaybeRow, equation_given, MaybeNamed, LinkOk, MaybeLink, link_ok}
+use Rattle.laws_lines.proofs.Regions.LinkVars.{limited_of, sum_form, offset_form, before_form, MaybeRow, equation_given, MaybeNamed, MaybeLink, link_ok}
 use Rattle.laws_lines.proofs.Regions.CallRegions.{numbered_named}
 use Rattle.laws_lines.proofs.Outs.CalleePieces.{IsJoined, linked_joined, every_scope, piece_neat}
 use Rattle.fx_lists.proofs.Lists.{each_append as both_all}

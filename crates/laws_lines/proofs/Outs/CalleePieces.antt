@@ -1,5 +1,5 @@
 -- The variables of a system of the caller in the terms of the callee: nothing of the caller is left, and of cells only scalar dummies.
-use Rattle.std.proofs.Common.{◌≡◌, ◌⊎◌, inl, inr, ℕ, suc, ◌<◌, ◌≤◌, Bool, true, false, List, [], ◌∷◌, ◌++◌, length, Option, Some, None, refl, sym, ap, subst}
+use Rattle.std.proofs.Common.{◌≡◌, inl, inr, ℕ, suc, ◌<◌, ◌≤◌, Bool, true, false, List, [], ◌∷◌, length, Option, Some, None, refl, sym, ap, subst}
 use Rattle.std.specs.Prelude.{if◌then◌else◌, not, option_to_list}
 use Rattle.affine_systems.specs.declared.row.Var.{Var}
 use Rattle.affine_systems.specs.declared.row.Var.TheVariants.{Cell, Exit, Phi, Aux}
@@ -11,7 +11,7 @@ use Rattle.hull_projection.specs.Laws.{IsOneOf}
 use Rattle.hull_projection.specs.Project.{project}
 use Rattle.hull_projection.specs.Variables.{row_vars}
 use Rattle.hull_projection.proofs.VarLaws.{rows_covered}
-use Rattle.preconditions.specs.transformer_algebra.Renaming.{rename_all, push_rows}
+use Rattle.preconditions.specs.transformer_algebra.Renaming.{push_rows}
 use Rattle.f77_ast.specs.Trees.{ExprTree}
 use Rattle.f77_ast.specs.declared.symbol.Place.{Place}
 use Rattle.f77_ast.specs.declared.symbol.Place.TheVariants.{Local, Dummy, Block, Constant}
@@ -24,7 +24,6 @@ use Rattle.affine_forms.specs.Conditions.{no_rows}
 use Rattle.preconditions.specs.call_translation.Scopes.{ScopeTree}
 use Rattle.preconditions.specs.call_translation.Actuals.{actual_of, form_in}
 use Rattle.in_out_regions.specs.call_equations.Sides.{SidesTree}
-use Rattle.in_out_regions.specs.call_equations.Forms.{equation}
 use Rattle.in_out_regions.specs.call_equations.Cells.{named_form}
 use Rattle.in_out_regions.specs.region_translation.Pieces.{standing, names_of, are_own}
 use Rattle.in_out_regions.proofs.RegionTranslation.NamingLaws.{name_is}

@@ -1,10 +1,10 @@
 -- OUT regions of the modules of a program have subscripts and tracked cells alone, and their lines are read as what was found: callers before callees.
-use Rattle.std.proofs.Common.{◌≡◌, ℕ, Bool, true, false, ◌&&◌, List, [], ◌∷◌, ◌++◌, length, Option, Some, None, refl}
-use Rattle.std.specs.Prelude.{if◌then◌else◌, reverse, bytes_eq}
+use Rattle.std.proofs.Common.{◌≡◌, ℕ, Bool, true, List, [], ◌∷◌, ◌++◌, length, Option, Some, None, refl}
+use Rattle.std.specs.Prelude.{reverse, bytes_eq}
 use Rattle.std.specs.List.{AllByRecursion}
 use Rattle.std.proofs.lemmas.Bool.{and_parts}
 use Rattle.affine_systems.proofs.Basics.{if_cases}
-use Rattle.f77_ast.specs.Trees.{ExprTrees, StmtTree, WhatTree, ArmTree, ArmTrees, ElseTree, LoopTree, StmtTrees}
+use Rattle.f77_ast.specs.Trees.{StmtTree, WhatTree, ArmTree, ArmTrees, ElseTree, LoopTree, StmtTrees}
 use Rattle.f77_ast.specs.Trees as tree
 use Rattle.f77_ast.specs.DeclTrees.{ParsedTree}
 use Rattle.f77_ast.specs.declared.symbol.Place.{Place}
@@ -12,17 +12,15 @@ use Rattle.f77_ast.specs.declared.symbol.Place.TheVariants.{Local, Dummy, Block,
 use Rattle.f77_ast.specs.declared.variable.Unit.{Unit as BlockUnit}
 use Rattle.f77_ast.specs.Symbols.{SymbolTree}
 use Rattle.f77_ast.specs.Shared.{symbol_at}
-use Rattle.f77_ast.specs.declared.results.Results.{Results}
 use Rattle.tracked_cells.specs.Standing.{is_int_scalar}
 use Rattle.call_graph.specs.declared.graph.Graph.{Graph}
 use Rattle.f77_meaning.specs.Modules.{Known, known_of}
-use Rattle.affine_forms.specs.Scalars.{is_cell}
 use Rattle.preconditions.specs.call_translation.Scopes.{ScopeTree}
 use Rattle.preconditions.specs.call_translation.Sites.{SiteTree}
 use Rattle.loop_marker.specs.module_phases.ScalarPhases.{scope_of, analyses}
 use Rattle.preconditions.specs.transformers.Lists.{transformer_at}
 use Rattle.in_out_regions.specs.region_sets.declared.region.Region.{Region}
-use Rattle.in_out_regions.specs.call_equations.Sides.{SidesTree, entry_cells, changed_cells}
+use Rattle.in_out_regions.specs.call_equations.Sides.{entry_cells}
 use Rattle.in_out_regions.specs.array_regions.Calls.{scope_with}
 use Rattle.loop_marker.specs.module_phases.RegionPhases.{ModuleRegions, all_regions}
 use Rattle.loop_marker.specs.module_phases.InPhases.{ModuleIns, all_ins}
@@ -47,7 +45,7 @@ use Rattle.laws_lines.proofs.PhaseVars.{each_all, value_is}
 use Rattle.laws_lines.specs.Regions.Names.{SymbolNamed, IsNamed, AreNamed}
 use Rattle.laws_lines.proofs.Regions.RegionVars.{IsFine, AreFine}
 use Rattle.laws_lines.proofs.Regions.AccessVars.{IsNamedBy, FewBounds}
-use Rattle.laws_lines.proofs.Regions.ProgramRegions.{scope_flags, found_done, few_at, regions_of, regions_with, IsNamedHere, SetsFine, ModuleFine, ModuleTold, map_long, any_fine, each_named, all_told, modules_fine, any_named, sets_over}
+use Rattle.laws_lines.proofs.Regions.ProgramRegions.{scope_flags, found_done, few_at, regions_of, regions_with, IsNamedHere, SetsFine, ModuleFine, ModuleTold, map_long, any_fine, all_told, modules_fine, any_named, sets_over}
 use Rattle.laws_lines.proofs.Regions.LinesMean.{sets_mean, tables_named}
 use Rattle.laws_lines.proofs.Regions.LinesPass.{sets_pass}
 use Rattle.laws_lines.proofs.Ins.InSets.{set_fine}

@@ -28,7 +28,7 @@ use Rattle.in_out_regions.specs.Kinds.{is_write}
 use Rattle.in_out_regions.specs.Lists.{all_unwritten}
 use Rattle.loop_marker.specs.out_regions.Used.{as_out, all_out, is_used_beside, joined, used_joined, used_in, each_met, unless_empty, met_with, used_of, if_write, used}
 use Rattle.loop_marker.specs.out_regions.Lists.{writes, applied, all_applied, left_over}
-use Rattle.loop_marker.specs.out_regions.Later.{later_from, later_rows_by, later_rows, is_steady, later_index, later_piece, later, all_later}
+use Rattle.loop_marker.specs.out_regions.Later.{later_rows_by, later_rows, is_steady, later_index, later_piece, later, all_later}
 use Rattle.laws_lines.specs.Variables.{IsCellOf}
 use Rattle.laws_lines.specs.Halves.{IsHalfOf}
 use Rattle.laws_lines.proofs.SystemVars.{IsNeat, AreGiven, system_more, meet_neat, push_rows_neat, project_neat, rename_neat}

@@ -1,7 +1,7 @@
 -- The variables of OUT regions at statements, and of the set that callers see.
-use Rattle.std.proofs.Common.{◌≡◌, ℕ, Bool, true, false, ◌||◌, List, [], ◌∷◌, ◌++◌}
+use Rattle.std.proofs.Common.{ℕ, Bool, true, false, List, [], ◌++◌}
 use Rattle.affine_systems.proofs.Basics.{if_cases}
-use Rattle.f77_ast.specs.Trees.{ExprTrees, StmtTree, WhatTree, ArmTree, ArmTrees, ElseTree, LoopTree, StmtTrees}
+use Rattle.f77_ast.specs.Trees.{StmtTree, WhatTree, ArmTree, ArmTrees, ElseTree, LoopTree, StmtTrees}
 use Rattle.f77_ast.specs.Trees as tree
 use Rattle.f77_ast.specs.declared.variable.Variable.{Variable}
 use Rattle.f77_ast.specs.declared.results.At.{At}
@@ -10,19 +10,18 @@ use Rattle.preconditions.specs.transformer_algebra.Transformers.{without}
 use Rattle.preconditions.specs.call_translation.Scopes.{ScopeTree}
 use Rattle.preconditions.specs.transformers.Jumps.{unstructured}
 use Rattle.preconditions.specs.transformers.Lists.{number_of, list_at}
-use Rattle.in_out_regions.specs.region_sets.declared.range.Range.{Range}
 use Rattle.in_out_regions.specs.region_sets.declared.region.Region.{Region}
 use Rattle.in_out_regions.specs.region_sets.Compose.{compose}
-use Rattle.in_out_regions.specs.region_sets.Lists.{accesses_at, list_regions, in_order, numbers, all_composed, forgetting, all_forgetting, all_accesses, set_at}
+use Rattle.in_out_regions.specs.region_sets.Lists.{accesses_at, list_regions, numbers, all_composed, forgetting, all_forgetting, all_accesses, set_at}
 use Rattle.in_out_regions.specs.region_sets.Sets.{unite_all}
 use Rattle.in_out_regions.specs.array_regions.Loops.{range_of}
 use Rattle.in_out_regions.specs.array_regions.Entry.{seen, locals}
 use Rattle.loop_marker.specs.out_regions.Known.{KnownTree}
-use Rattle.loop_marker.specs.out_regions.Used.{all_out, used}
-use Rattle.loop_marker.specs.out_regions.Lists.{writes_at, rest_in, rest_writes, rest_of, left_over, used_behind, first_out, rest_out, may_leave, used_around, any_out, all_applied}
+use Rattle.loop_marker.specs.out_regions.Used.{all_out}
+use Rattle.loop_marker.specs.out_regions.Lists.{writes_at, rest_of, left_over, used_behind, first_out, rest_out, may_leave, used_around, any_out, all_applied}
 use Rattle.loop_marker.specs.out_regions.Later.{all_later}
 use Rattle.loop_marker.specs.out_regions.Statement.{body_writes, body_out, body_in, used_after, loop_out, only_out, at_parts, at_arms, at_arm, at_else, at_loop, at_only, at_any, at_used, at_rest, at_first, at_list}
-use Rattle.loop_marker.specs.out_regions.Modules.{summary_of, outs_from, outs_of}
+use Rattle.loop_marker.specs.out_regions.Modules.{outs_of}
 use Rattle.loop_marker.specs.out_regions.declared.rest.Rest.{Rest}
 use Rattle.laws_lines.proofs.RuleVars.{IsDone, without_neat}
 use Rattle.laws_lines.proofs.StatementVars.{AllAt, all_at-append, Scope}

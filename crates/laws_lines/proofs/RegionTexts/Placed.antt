@@ -12,7 +12,6 @@ use Rattle.system_text.specs.SystemText.{each_after, joined, row_side, row_text,
 use Rattle.system_text.specs.Reading.{Bytes, cut, read_rows, read_system}
 use Rattle.system_text.specs.Printed.{AreNames, IsNamed, AreNamed, IsOrdered}
 use Rattle.system_text.proofs.Texts.{IsFree, AreFree, free-append, free-each_after, cut-at}
-use Rattle.system_text.proofs.Parts.{IsOuter}
 use Rattle.system_text.proofs.Sides.{side_free}
 use Rattle.system_text.proofs.SystemBack.{systems_read_back, brace_outer}
 use Rattle.laws_lines.specs.RegionTexts.Reading.{phi_names, with_phis, as_subscript, read_piece}

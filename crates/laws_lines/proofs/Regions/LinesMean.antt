@@ -14,7 +14,6 @@ use Rattle.f77_ast.specs.declared.variable.Variable.{Variable}
 use Rattle.f77_ast.specs.declared.variable.Variable.TheVariants.{Own, Block, Saved}
 use Rattle.f77_ast.specs.Symbols.{SymbolTree}
 use Rattle.f77_meaning.specs.Modules.{Known, known_of, symbol_names}
-use Rattle.affine_forms.specs.Scalars.{is_cell}
 use Rattle.loop_marker.specs.module_phases.ScalarPhases.{scope_of, analyses}
 use Rattle.loop_marker.specs.module_phases.RegionPhases.{ModuleRegions, all_regions}
 use Rattle.in_out_regions.specs.region_sets.declared.region.Region.{Region}

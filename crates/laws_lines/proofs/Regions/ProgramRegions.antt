@@ -1,9 +1,8 @@
 -- Regions of the modules of a program have subscripts and tracked cells alone: module by module, callees before callers.
-use Rattle.affine_forms.specs.Scalars.{flag_of, is_cell, if_cell}
+use Rattle.affine_forms.specs.Scalars.{is_cell}
 use Rattle.affine_systems.specs.declared.row.Var.{Var}
 use Rattle.affine_systems.specs.declared.row.Var.TheVariants.{Cell, Exit, Phi, Aux}
 use Rattle.call_graph.specs.declared.graph.Graph.{Graph}
-use Rattle.preconditions.specs.call_translation.Common.{is_unit}
 use Rattle.in_out_regions.specs.array_regions.Calls.{Callees}
 use Rattle.in_out_regions.specs.array_regions.Modules.{calls_of}
 use Rattle.f77_ast.specs.Trees.{ExprTrees}
@@ -20,7 +19,7 @@ use Rattle.f77_ast.specs.declared.symbol.Place.{Place}
 use Rattle.f77_ast.specs.declared.symbol.Place.TheVariants.{Local, Dummy, Block, Constant}
 use Rattle.f77_ast.specs.declared.variable.Unit.{Unit as BlockUnit}
 use Rattle.f77_ast.specs.declared.variable.Variable.{Variable}
-use Rattle.laws_lines.proofs.PhaseVars.{each_all, AnalysisOk, analyses_ok, value_is, named_flag, unit_flag, set_cell, Flag}
+use Rattle.laws_lines.proofs.PhaseVars.{each_all, AnalysisOk, analyses_ok, value_is, named_flag, unit_flag, set_cell}
 use Rattle.laws_lines.proofs.RuleVars.{IsDone, unchanging_done}
 use Rattle.laws_lines.proofs.StatementVars.{AllAt, Scope}
 use Rattle.laws_lines.proofs.SystemVars.{IsNeat, neat_over, system_more}
@@ -47,9 +46,9 @@ use Rattle.in_out_regions.specs.region_sets.declared.region.Region.{Region}
 use Rattle.in_out_regions.specs.call_equations.Sides.{changed_cells}
 use Rattle.loop_marker.specs.module_phases.ScalarPhases.{scope_of, place_of, module_at, module_of, Found, found_of, maybe_found, Analysis, sites_of, analysis_of, analyses_from, analyses}
 use Rattle.loop_marker.specs.module_phases.ScalarPhases as scalars
-use Rattle.std.proofs.Common.{◌≡◌, ℕ, suc, ◌+◌, ◌-◌, Bool, true, false, ◌||◌, List, [], ◌∷◌, ◌++◌, Option, Some, None, arith, refl, sym, ap, ◌∙◌, subst, nat_eq, length, ◌≤◌}
+use Rattle.std.proofs.Common.{◌≡◌, ℕ, suc, ◌+◌, ◌-◌, Bool, true, false, ◌||◌, List, [], ◌∷◌, ◌++◌, Option, Some, None, arith, refl, sym, ap, subst, nat_eq, length, ◌≤◌}
 use Rattle.std.proofs.lemmas.Bool.Decides.{nat_tests}
-use Rattle.std.proofs.lemmas.Bool.{ne_eqb, or_parts}
+use Rattle.std.proofs.lemmas.Bool.{or_parts}
 use Rattle.std.proofs.lemmas.Slice.Eq.{bytes_eq-Decides}
 use Rattle.std.specs.List.{AllByRecursion}
 use Rattle.std.specs.Prelude.{if◌then◌else◌, reverse, map, bytes_eq, slice_get, option_to_list, is_some, nat_lt}

@@ -1,7 +1,7 @@
 -- The variables of a system in which exits of cells are replaced by what they are: no such exit is left.
-use Rattle.std.proofs.Common.{◌≡◌, ◌⊎◌, inl, inr, ⊎_elim, ℕ, Bool, true, false, ◌&&◌, ◌||◌, List, [], ◌∷◌, Option, Some, None, refl, sym, ap, ◌∙◌, subst, nat_eq, pos, neg_ℤ, ◌*ℤ◌}
+use Rattle.std.proofs.Common.{◌≡◌, ◌⊎◌, inl, inr, ⊎_elim, ℕ, Bool, true, false, ◌||◌, List, [], ◌∷◌, Option, Some, None, refl, sym, ap, ◌∙◌, subst, nat_eq, pos, neg_ℤ, ◌*ℤ◌}
 use Rattle.std.specs.Prelude.{if◌then◌else◌}
-use Rattle.std.proofs.lemmas.Bool.{and_parts, not-true, or_left, or_right}
+use Rattle.std.proofs.lemmas.Bool.{or_left, or_right}
 use Rattle.affine_systems.specs.declared.row.Var.{Var}
 use Rattle.affine_systems.specs.declared.row.Var.TheVariants.{Exit}
 use Rattle.affine_systems.specs.declared.row.Term.{Term}
@@ -14,19 +14,19 @@ use Rattle.affine_systems.specs.Tidy.{by_row, tidy}
 use Rattle.affine_systems.specs.Calls.{unless_too_big, substitute}
 use Rattle.affine_systems.proofs.TermLaws.{true-var_eq}
 use Rattle.affine_systems.proofs.AscendLaws.{ascends-combined}
-use Rattle.affine_systems.proofs.LackLaws.{RowsNil, tidy_nil, normal_nil, NormalNil}
+use Rattle.affine_systems.proofs.LackLaws.{RowsNil, tidy_nil}
 use Rattle.preconditions.specs.transformer_algebra.Cells.{has}
 use Rattle.in_out_regions.specs.region_sets.Naming.{in_terms}
 use Rattle.in_out_regions.specs.region_sets.Compose.{is_exit_row, exit_row, on_row, put_exits}
 use Rattle.laws_lines.specs.Variables.{EachVar}
 use Rattle.laws_lines.proofs.RowVars.{each-combined, Given, neat_given, over_lasts}
 use Rattle.laws_lines.proofs.SystemVars.{IsNeat, AreGiven, system_more, tidy_neat, rows_without}
-use Rattle.in_out_regions.proofs.RegionSets.ComposeLaws.{Says, says, other_exits, other_nil, exit_nil}
+use Rattle.in_out_regions.proofs.RegionSets.ComposeLaws.{Says, says, other_exits, exit_nil}
 use Rattle.fx_lists.proofs.Options.{none_some, some_is}
 use Rattle.fx_lists.proofs.Numbers.{same_is as nat_same, nat_eq_same}
 use Rattle.fx_lists.proofs.Booleans.{clash as clashes}
 use Rattle.in_out_regions.specs.region_sets.Putting.{settled_by, normal_form, put_in, before_rows, put_in_all, put_row}
-use Rattle.in_out_regions.proofs.RegionSets.PutLaws.{too_big_nil, settled_nil, before_nil, all_gone, all_nil}
+use Rattle.in_out_regions.proofs.RegionSets.PutLaws.{all_gone}
 
 -- ---- which variables rows have
 

@@ -1,13 +1,15 @@
 -- What it means to read a text with its directives: the modules of the text, and which of their loops are marked.
-use Rattle.std.specs.Prelude.{◌≡◌, ℕ, true, List, [], ◌∷◌, ◌++◌, nat_eq, Option, Some, None, option_map, if◌then◌else◌}
+use Rattle.std.specs.Prelude.{◌≡◌, ℕ, true, List, [], ◌∷◌, ◌++◌, map, nat_eq, Option, Some, None, option_map, if◌then◌else◌}
 use Rattle.std.specs.List.{list_all, list_any}
 use Rattle.f77_ast.specs.declared.places.Part.{Part}
 use Rattle.f77_ast.specs.declared.places.Part.TheVariants.{Title, Decl, Stmt, ElseIf, Else, Close, End}
 use Rattle.f77_ast.specs.declared.places.Spot.{Spot}
-use Rattle.f77_ast.specs.Trees.{StmtTrees}
-use Rattle.f77_ast.specs.DeclTrees.{ParsedTree}
+use Rattle.f77_ast.specs.Trees.{LoopTree, StmtTrees, loop}
+use Rattle.f77_ast.specs.DeclTrees.{ModuleTree, ParsedTree}
 use Rattle.f77_ast.specs.Shapes.{Walk, walk_list}
 use Rattle.f77_ast.specs.declared.results.At.{At}
+use Rattle.loop_marker.specs.dependence_test.Finding.{loop_in}
+use Rattle.loop_marker.specs.privatizer.Functions.{own_functions}
 use Rattle.system_text.specs.Reading.{Bytes}
 use Rattle.laws_programs.specs.roundtrip_programs.Texts.Texts.{IsReadAs}
 use Rattle.laws_lines.specs.Marks.Directives.{Directive, directives_in}
@@ -68,6 +70,26 @@ all_attached (p ∷ ps) ds =
     let more = all_attached ps own.1 in
     (own.0 ∷ more.0, more.1)
 
+-- ---- the names that the text does not say
+
+abbrev pub functions_in_loop : ModuleTree → Option LoopTree → List Bytes
+functions_in_loop m None = []
+functions_in_loop m (Some (loop i first last step body)) = own_functions m body
+
+-- the functions of which the body of the DO with this number takes values; none in a module that saves all its variables (ANSI X3.9-1978 §8.9), the results of its functions too
+abbrev pub functions_of : ModuleTree → ℕ → List Bytes
+functions_of m n = functions_in_loop m (loop_in n m.body)
+
+-- their results are private in the DO, too: each iteration has its own
+abbrev pub with_functions : ModuleTree → List (At (List Bytes)) → List (At (List Bytes))
+with_functions m ms = map (λ (x : At (List Bytes)). record { id = x.id; value = x.value ++ functions_of m x.id }) ms
+
+-- of modules, with the marked loops of each
+abbrev pub all_with_functions : List ParsedTree → List (List (At (List Bytes))) → List (List (At (List Bytes)))
+all_with_functions [] mss = []
+all_with_functions (p ∷ ps) [] = []
+all_with_functions (p ∷ ps) (ms ∷ mss) = with_functions p.module_read ms ∷ all_with_functions ps mss
+
 -- ---- texts
 
 -- each marked statement is a DO
@@ -78,10 +100,13 @@ AreOfLoops (p ∷ ps) [] = ⊥
 AreOfLoops (p ∷ ps) (ms ∷ mss) = (list_all (λ (m : At (List Bytes)). list_any (nat_eq m.id) (loops_in p.module_read.body)) ms ≡ true) × AreOfLoops ps mss
 
 -- the text is read as these modules, and in each the DO statements with these numbers are marked, with these private names: a directive stands directly before
--- each of them, in the lines above its first one, and no line for compilers stands anywhere else
+-- each of them, in the lines above its first one, and no line for compilers stands anywhere else. The private names are those of the directive, and then those of
+-- the functions of which the body takes values
 pub record ReadMarked (text : Bytes) (ps : List ParsedTree) (marks : List (List (At (List Bytes)))) : Type 0 where
   pub read : IsReadAs text ps
   pub directives : List Directive
   pub found : directives_in text ≡ Some directives
-  pub marked : all_attached ps directives ≡ (marks, [])
+  pub named : List (List (At (List Bytes)))
+  pub attached : all_attached ps directives ≡ (named, [])
+  pub marked : all_with_functions ps named ≡ marks
   pub loops : AreOfLoops ps marks

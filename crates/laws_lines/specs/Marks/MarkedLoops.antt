@@ -7,7 +7,9 @@ use Rattle.system_text.specs.SystemText.{name_at}
 use Rattle.f77_ast.specs.declared.marks.Mark.{Mark}
 use Rattle.f77_ast.specs.declared.marks.Mark.TheVariants.{Parallel, Serial}
 use Rattle.loop_marker.specs.Results.{ModuleResults}
+use Rattle.result_lines.specs.ShownMarks.{shown_marks}
 use Rattle.system_text.specs.Reading.{Bytes}
+use Rattle.laws_lines.specs.Marks.Marked.{with_functions}
 
 -- ---- the parallel loops among marked ones, with the names of their private variables
 
@@ -39,9 +41,10 @@ directives_of (p ∷ ps) (ms ∷ mss) x n = if bytes_eq p.module_read.name x the
 abbrev pub name_in : ModuleResults → Bytes
 name_in f = f.known.read.name
 
--- the parallel loops of a module, each with the names of its private variables
+-- the parallel loops of a module, each with the names of its private variables: those that its directive has, and the functions of which its body takes values
 abbrev pub parallel_loops : ModuleResults → List (At (List Bytes))
-parallel_loops f = parallel_in (symbol_names f.known.symbols) f.marks
+parallel_loops f =
+    with_functions f.known.read (parallel_in (symbol_names f.known.symbols) (shown_marks f.known.read (symbol_names f.known.symbols) f.marks))
 
 abbrev pub directives_found : List ModuleResults → Bytes → ℕ → Option (List Bytes)
 directives_found [] x n = None

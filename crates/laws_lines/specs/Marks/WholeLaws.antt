@@ -13,7 +13,7 @@ use Rattle.laws_programs.specs.roundtrip_programs.Texts.Texts.{IsReadAs, modules
 use Rattle.laws_programs.specs.roundtrip_programs.Texts.Laws.{AllPassedOver}
 use Rattle.laws_programs.specs.roundtrip_programs.Lines.{AreShown}
 use Rattle.laws_lines.specs.Marks.Directives.{is_sentinel}
-use Rattle.laws_lines.specs.Marks.Marked.{loops_in, ReadMarked}
+use Rattle.laws_lines.specs.Marks.Marked.{loops_in, with_functions, ReadMarked}
 use Rattle.laws_lines.specs.Marks.Lines.{AreNumberedMarks}
 use Rattle.laws_lines.specs.Marks.MarkedLoops.{parallel_in}
 
@@ -44,7 +44,7 @@ abbrev pub MarksReadBack : Type 0
 MarksReadBack =
     (text : Bytes) (ps : List ParsedTree) (names : ParsedTree → List Bytes) (why : Bool) (marks : ParsedTree → List (At Mark)) (others : ParsedTree → List Added) → IsReadAs text ps
     → AllPassedOver (with_marks names why marks others) ps → Each (IsMarked names marks others) ps
-    → MarkedBack (modules_text (with_marks names why marks others) ps) ps (map (λ (p : ParsedTree). parallel_in (names p) (marks p)) ps)
+    → MarkedBack (modules_text (with_marks names why marks others) ps) ps (map (λ (p : ParsedTree). with_functions p.module_read (parallel_in (names p) (marks p))) ps)
 
 -- the written text of modules, with lines that reading drops and that depend on the statements of a module alone, is written again, with these lines, of what it is read as
 abbrev pub TextsAreWrittenAgain : Type 0

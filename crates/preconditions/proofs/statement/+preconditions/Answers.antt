@@ -1,15 +1,22 @@
-use Rattle.std.proofs.Common.{◌≡◌, List, [], ◌∷◌, ◌++◌, IfOk, append_assoc, ap, refl, subst, ◌∙◌}
+use Rattle.std.proofs.Common.{◌≡◌, List, [], ◌∷◌, ◌++◌, IfOk, append_assoc, ap, refl, subst, arith, ◌<◌, ◌+◌, drop, ◌∙◌}
 use Rattle.affine_systems.specs.declared.row.System.{System}
+use denote.Param.Weighed.{most, w_this}
+use Rattle.f77_ast.specs.declared.stmt.Stmt.{Stmt, size-Stmt}
+use Rattle.f77_ast.specs.declared.stmt.Arm.{size-Arm}
 use Rattle.f77_ast.specs.declared.stmt.Loop.{out-Loop}
 use Rattle.f77_ast.specs.Plain.{expr_tree}
-use Rattle.f77_ast.specs.PlainStmt.{stmt_tree, stmt_trees, what_tree, loop_tree, maybe_tree}
+use Rattle.f77_ast.specs.PlainStmt.{stmt_tree, stmt_trees, what_tree, arm_tree, loop_tree, maybe_tree}
 use Rattle.f77_ast.proofs.PlainlyStmt.{loop_tree-out}
 use Rattle.f77_ast.specs.declared.results.At.{At}
 use Rattle.transformers.specs.transformer_algebra.Loops.{after_loop}
+use Rattle.transformers.specs.Jumps.{is_end}
 use Rattle.transformers.specs.Statement.{at}
-use Rattle.preconditions.specs.Statement.{at_stmt, at_parts}
+use Rattle.transformers.specs.WhileParts.{arm_while}
+use Rattle.transformers.proofs.WhileSteps.{arm_less}
+use Rattle.preconditions.specs.Statement.{while_done, at_stmt, at_parts}
 use Rattle.preconditions.specs.Known.{scope_in, found_in}
-use Rattle.preconditions.proofs.WalkLaws.{all_pushed, same_added, arm_value, arm_end, arm_added, loop_value, loop_added, whichever}
+use Rattle.preconditions.proofs.WalkLaws.{all_pushed, same_added, arm_value, arm_end, arm_added, before_step, each_step, rest_is, loop_value, loop_added, whichever}
+use Rattle.preconditions.proofs.WhileLaws.{only_ends, only_at, other_ends, other_at, goto_made, at_made}
 use Rattle.preconditions.proofs.statement.+preconditions.Goals as goal
 
 pub after-returns-clause-added : goal.after-returns-clause-added
@@ -50,9 +57,73 @@ after_arms-loop-arm-preserved t c =
       gives = c.in_ok-tests.ensures.fits.1;
       ends = arm_end m k p tests.yes c.in_ok-end.end tests.no c.loop-arm.ends.items c.push.new.self.items xs i a c.loop-arm-test.true c.arm-item.is yes c.in_ok-end.ensures.defined no c.in_ok-push.ensures.items ∙ c.loop-arm.invariant.ends;
       ends_fit = all_pushed c.loop-arm.ends.items c.push.new.self.items c.in_ok-end.end c.in_ok-push.ensures.items c.loop-arm.invariant.ends_fit c.in_ok-end.ensures.fits;
-      added = arm_added m k p tests.yes tests.no c.loop-arm.at c.after_list.new.at xs i a c.loop-arm-test.true c.arm-item.is yes no c.in_ok-end.ensures.added ∙ c.loop-arm.invariant.added;
+      added = arm_added m k p tests.yes tests.no c.loop-arm.at c.after_arm_list.new.at xs i a c.loop-arm-test.true c.arm-item.is yes no c.in_ok-end.ensures.added ∙ c.loop-arm.invariant.added;
       fits = c.in_ok-end.ensures.results_fit;
     }
+
+pub before_last-loop-place-preserved : goal.before_last-loop-place-preserved
+before_last-loop-place-preserved t c =
+    let m = scope_in c.args.known.now in
+    let k = found_in c.args.known.now in
+    let ss = c.as_slice-statements.result.now in
+    let i = c.loop-place.place in
+    let s = c.index-statements-place.result in
+    let p = c.loop-place.holds in
+    let b = c.in_ok-before.before in
+    let e = c.in_ok-end.end in
+    let h = c.unless_last-holds.result in
+    let last : c.is_end.result ≡ is_end (stmt_trees (drop (i + 1) ss)) = c.is_end.ensures ∙ ap (λ (ys : List Stmt). is_end (stmt_trees ys)) (rest_is ss (i + 1)) in
+    record {
+      value = before_step m k ss i s p b e h c.is_end.result c.loop-place-test.true c.index-statements-place.is last c.in_ok-before.ensures.defined c.in_ok-end.ensures.defined c.unless_last-holds.ensures.defined ∙ c.loop-place.invariant.value;
+      gives = c.unless_last-holds.ensures.fits;
+      added = each_step m k ss i s p b e h c.is_end.result c.loop-place.at c.after.new.at c.loop-place-test.true c.index-statements-place.is last c.in_ok-before.ensures.defined c.in_ok-end.ensures.defined c.unless_last-holds.ensures.defined c.in_ok-end.ensures.added ∙ c.loop-place.invariant.added;
+      fits = c.in_ok-end.ensures.results_fit;
+    }
+
+pub after_while-returns-clause-defined : goal.after_while-returns-clause-defined
+after_while-returns-clause-defined t c =
+    let m = scope_in c.args.known.now in
+    let k = found_in c.args.known.now in
+    let a = c.args.arm.now in
+    let p = c.args.p.now in
+    subst (λ (x : System). IfOk c.while_done.result (λ q. q ≡ while_done (arm_while (arm_tree a)) m p x))
+    (goto_made a m k p c.in_ok-each.each c.in_ok-tests.tests.yes c.in_ok-end.end c.in_ok-each.ensures.defined c.in_ok-tests.ensures.yes c.in_ok-end.ensures.defined)
+    c.while_done.ensures.defined
+
+pub after_while-returns-clause-added : goal.after_while-returns-clause-added
+after_while-returns-clause-added t c =
+    whichever c.while_done.result
+    (at_made c.args.id c.args.arm.now (scope_in c.args.known.now) (found_in c.args.known.now) c.args.p.now c.in_ok-each.each c.in_ok-tests.tests.yes c.args.at.now c.push_found.new.at c.last_begins.new.at
+    c.in_ok-each.ensures.defined c.in_ok-tests.ensures.yes c.in_ok-push_found.ensures.added c.in_ok-end.ensures.added)
+
+pub after_arm_list-returns-in-None-clause-defined : goal.after_arm_list-returns-in-None-clause-defined
+after_arm_list-returns-in-None-clause-defined t c =
+    subst (λ (x : System). IfOk c.after_list.result (λ q. q ≡ x))
+    (other_ends (stmt_trees c.args.list.now) (scope_in c.args.known.now) (found_in c.args.known.now) c.args.p c.in-None.ensures.defined)
+    c.after_list.ensures.defined
+
+pub after_arm_list-returns-in-None-clause-added : goal.after_arm_list-returns-in-None-clause-added
+after_arm_list-returns-in-None-clause-added t c =
+    subst (λ (xs : List (At System)). IfOk c.after_list.result (λ _. c.after_list.new.at ≡ c.args.at.now ++ xs))
+    (other_at (stmt_trees c.args.list.now) (scope_in c.args.known.now) (found_in c.args.known.now) c.args.p c.in-None.ensures.defined)
+    c.after_list.ensures.added
+
+pub after_arm_list-returns-in-Some-clause-defined : goal.after_arm_list-returns-in-Some-clause-defined
+after_arm_list-returns-in-Some-clause-defined t c =
+    subst (λ (x : System). IfOk c.after_while.result (λ q. q ≡ x))
+    (only_ends c.in-Some.w c.args.list.now (scope_in c.args.known.now) (found_in c.args.known.now) c.args.p c.in-Some.ensures.within c.in-Some.ensures.defined)
+    c.after_while.ensures.defined
+
+pub after_arm_list-returns-in-Some-clause-added : goal.after_arm_list-returns-in-Some-clause-added
+after_arm_list-returns-in-Some-clause-added t c =
+    subst (λ (xs : List (At System)). IfOk c.after_while.result (λ _. c.after_while.new.at ≡ c.args.at.now ++ xs))
+    (only_at c.in-Some.w c.args.list.now (scope_in c.args.known.now) (found_in c.args.known.now) c.args.p c.in-Some.ensures.within c.in-Some.ensures.defined)
+    c.after_while.ensures.added
+
+pub after_arm_list-after_while-requires : goal.after_arm_list-after_while-requires
+after_arm_list-after_while-requires t c =
+    let k : size-Arm c.in-Some.w.arm.now < most ((w_this).weight Stmt size-Stmt) c.args.list.now = arm_less c.args.list.now c.in-Some.ensures.within.0 c.in-Some.w.arm.now c.in-Some.ensures.within.1 c.in-Some.ensures.within.2.1 in
+    (omega (arith, c.decreases, k), (c.requires.known, (c.requires.before, c.requires.found)))
 
 pub after_do-returns-clause-defined : goal.after_do-returns-clause-defined
 after_do-returns-clause-defined t c =

@@ -1,7 +1,7 @@
 use Rattle.std.proofs.Common.{◌≡◌, ◌++◌, drop}
 use Rattle.affine_systems.specs.Given.{Fits}
 use Rattle.f77_ast.specs.PlainStmt.{stmt_trees, arm_trees}
-use Rattle.preconditions.specs.Statement.{after_each, after_arms, past_arms, at_each, at_all, at_arms, AllFit, EachFits}
+use Rattle.preconditions.specs.Statement.{after_each, before_last, after_arms, past_arms, at_each, at_all, at_arms, AllFit, EachFits}
 use Rattle.preconditions.specs.Known.{scope_in, found_in}
 use Rattle.preconditions.proofs.statement.+preconditions.Given as goal
 
@@ -16,6 +16,14 @@ invariant-after_each-loop-s l = record {
   value : after_each (stmt_trees (drop l.s-index l.s-items)) (scope_in l.known) (found_in l.known) l.holds ≡ after_each (stmt_trees l.s-items) (scope_in l.known) (found_in l.known) l.fn.p;
   gives : Fits l.holds;
   added : l.at ++ at_each (stmt_trees (drop l.s-index l.s-items)) (scope_in l.known) (found_in l.known) l.holds ≡ l.fn.at ++ at_each (stmt_trees l.s-items) (scope_in l.known) (found_in l.known) l.fn.p;
+  fits : EachFits l.at;
+}
+
+abbrev pub invariant-before_last-loop-place : goal.invariant-before_last-loop-place
+invariant-before_last-loop-place l = record {
+  value : before_last (stmt_trees (drop l.place l.statements)) (scope_in l.known) (found_in l.known) l.holds ≡ before_last (stmt_trees l.statements) (scope_in l.known) (found_in l.known) l.fn.p;
+  gives : Fits l.holds;
+  added : l.at ++ at_each (stmt_trees (drop l.place l.statements)) (scope_in l.known) (found_in l.known) l.holds ≡ l.fn.at ++ at_each (stmt_trees l.statements) (scope_in l.known) (found_in l.known) l.fn.p;
   fits : EachFits l.at;
 }
 

@@ -1,6 +1,3 @@
-use Rattle.std.proofs.Common.{[], ◌∷◌, ◌++◌, ap, ◌∙◌}
-use Rattle.affine_systems.specs.declared.row.System.{System}
-use Rattle.transformers.specs.Statement.{at}
 use Rattle.preconditions.proofs.WalkLaws.{each_pushed}
 use Rattle.preconditions.proofs.statement.push_found.Goals as goal
 

@@ -7,8 +7,8 @@ use Rattle.transformers.specs.Given.{ResultsFit}
 use Rattle.transformers.specs.Statement.{scope_in, callees_in, each_transformer, arm_transformers, without_arms, at_list, at_arms}
 use Rattle.transformers.proofs.statement.+transformers.Given as goal
 
-abbrev pub invariant-with_list-loop-place : goal.invariant-with_list-loop-place
-invariant-with_list-loop-place l = record {
+abbrev pub invariant-each_transformer-loop-place : goal.invariant-each_transformer-loop-place
+invariant-each_transformer-loop-place l = record {
   value : l.all.items ++ each_transformer (stmt_trees (drop l.place l.statements)) (scope_in l.known) (callees_in l.known) l.whole ≡ each_transformer (stmt_trees l.statements) (scope_in l.known) (callees_in l.known) l.whole;
   gives : AllFit l.all.items;
   added : l.at ++ at_list (stmt_trees (drop l.place l.statements)) (scope_in l.known) (callees_in l.known) l.whole ≡ l.fn.at ++ at_list (stmt_trees l.statements) (scope_in l.known) (callees_in l.known) l.whole;

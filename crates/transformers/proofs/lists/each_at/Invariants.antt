@@ -2,7 +2,7 @@ use Rattle.std.proofs.Common.{◌≡◌, ◌++◌, length}
 use Rattle.f77_ast.specs.PlainStmt.{stmt_trees}
 use Rattle.call_translation.specs.transformer_algebra.Transformers.{AllFit}
 use Rattle.transformers.specs.Lists.{transformer_at, each_at}
-use Rattle.transformers.proofs.lists.list_at.Given as goal
+use Rattle.transformers.proofs.lists.each_at.Given as goal
 
 abbrev pub invariant-loop-rest : goal.invariant-loop-rest
 invariant-loop-rest l = record {
