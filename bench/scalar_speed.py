@@ -4,7 +4,8 @@
     python3 bench/scalar_speed.py [PATH_TO_PIPS [NESTS [MODULES..]]]
 
 First one module of 100 nests (or NESTS) of three loops, 1,000 statements, which begin their counters anew; then a tenth as many nests that go
-on with the counters of those before them, so that more and more rows hold; then 16, 32 and 64 modules (or MODULES) in a chain of calls, and as
+on with the counters of those before them, so that more and more rows hold; then a quarter, half and all of 100 nests (or NESTS) of three DO WHILEs, which
+begin their counters anew; then 16, 32 and 64 modules (or MODULES) in a chain of calls, and as
 many of which each calls two. Each line: the case, the bytes in and out, the processor seconds of the command (the least of three, with the start
 of the program) and of the reference, the ratio, and the greatest memory in MiB.
 """
@@ -38,6 +39,15 @@ def nest(k, first, body):
 def nests(first, body, count=100):
     """A module of 1,000 statements but for the first and the last; the END DOs are none."""
     return text_of(['PROGRAM P', 'INTEGER A(1000)', 'READ *,N'] + [line for k in range(count) for line in nest(k, first, body(k))] + ['PRINT *,M', 'END'])
+
+
+def while_nest(k):
+    """Three DO WHILEs, one in the other, and what they count."""
+    return ['I=1', 'L=0', f'DO WHILE (I.LE.N+{k})', 'J=1', 'DO WHILE (J.LE.I)', 'K=J', f'DO WHILE (K.LT.{k + 9})', f'K=K+{k % 3 + 1}', 'L=L+1', 'END DO', 'J=J+1', 'END DO', 'I=I+1', 'END DO']
+
+
+def while_nests(count):
+    return text_of(['PROGRAM P', 'READ *,N'] + [line for k in range(count) for line in while_nest(k)] + ['PRINT *,L', 'END'])
 
 
 def module(number, modules, calls):
@@ -81,6 +91,8 @@ def main(*words):
     binary, count = binary_of(words[:1]), int(words[1]) if len(words) > 1 else 100
     compare(f'{count} nests of three loops', binary, nests('L=0', arrays, count))
     compare(f'{max(1, count // 10)} nests that go on with counters', binary, nests('CONTINUE', counters, max(1, count // 10)))
+    for nests_of in sorted({max(1, count // 4), max(1, count // 2), count}):
+        compare(f'{nests_of} nests of three DO WHILEs', binary, while_nests(nests_of))
     for calls in [1, 2]:
         for modules in [int(word) for word in words[2:]] or [16, 32, 64]:
             compare(f'{modules} modules, each calls {calls}', binary, chain(modules, calls))

@@ -1,9 +1,9 @@
 #!/usr/bin/env python3
 """Runs the texts that a command writes with their marked loops interleaved, and compares with the run one iteration after the other.
 
-    python3 bench/schedules.py COUNT [SCHEDULES [COMMAND..]]
+    python3 bench/schedules.py [--profile NAME] COUNT [SCHEDULES [COMMAND..]]
 
-Makes random programs of reference/programs.py, of the profiles below in turn, until COUNT texts were of use. COMMAND writes the text of each with --show bare: the built program where none is given, and the reference in place of
+Makes random programs of reference/programs.py, of the profiles below in turn or of one, until COUNT texts were of use. COMMAND writes the text of each with --show bare: the built program where none is given, and the reference in place of
 the word `reference`. The text is read back with its directives by the reference, whose interpreter runs both. It is of use where the program, on one of its inputs, has a run of at most 300 events that conforms and ends, and the text
 comes to a marked loop there with two accesses or more of variables that its iterations share.
 Each text has SCHEDULES parallel runs (200), on its inputs in turn. The iterations of each marked loop go on access by access, in an order drawn anew, each with copies of its own of the DO variable and of what PRIVATE names. Each run has to
@@ -11,6 +11,7 @@ end as the program's run does: by no fault, with the same printed items, the sam
 At the end each text with PRIVATE is run, up to 20 times, as if its directives had none: many should differ then, which shows that the comparison finds something.
 Prints each difference, and how much was run. Without the built program: python3 bench/schedules.py 500 200 reference
 """
+import argparse
 import collections
 import re
 import signal
@@ -123,12 +124,18 @@ def try_program(command, seed, profile, schedules, soundness, programs, counts):
     try_text(made, schedules, say, counts)
 
 
-def main(count, schedules=200, *command):
-    command = list(command) or [binary_of([])]
+def main():
+    words = argparse.ArgumentParser()
+    words.add_argument('--profile', action='append')
+    words.add_argument('count', type=int)
+    words.add_argument('schedules', type=int, nargs='?', default=200)
+    words.add_argument('command', nargs='*')
+    given = words.parse_args()
+    command, profiles = given.command or [binary_of([])], given.profile or PROFILES
     programs, soundness = reference.load('programs'), reference.load('soundness')
     counts, seed = collections.Counter(), 0
-    while counts['texts'] < int(count):
-        try_program(command, seed, PROFILES[seed % len(PROFILES)], int(schedules), soundness, programs, counts)
+    while counts['texts'] < given.count:
+        try_program(command, seed, profiles[seed % len(profiles)], given.schedules, soundness, programs, counts)
         seed += 1
     names = ('programs', 'texts', 'marked loops', 'schedules', 'runs of marked loops', 'accesses', 'differences', 'texts with PRIVATE', 'that differ without', 'too slow for the reference')
     print(', '.join(f'{counts[name]} {name}' for name in names))
@@ -136,4 +143,4 @@ def main(count, schedules=200, *command):
 
 
 if __name__ == '__main__':
-    sys.exit(main(*sys.argv[1:]))
+    sys.exit(main())
