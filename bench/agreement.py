@@ -2,12 +2,12 @@
 """Compares the built program with the reference implementation on random texts: the exit number, and each byte on out and on err. What is
 written is given to the built program again, with the same words, and has to come out unchanged.
 
-    python3 bench/agreement.py [--statements] [--damaged] [--from SEED] COUNT [PATH_TO_PIPS [PROFILE..]]
+    python3 bench/agreement.py [--statements] [--damaged] [--reductions] [--from SEED] COUNT [PATH_TO_PIPS [PROFILE..]]
 
 The texts are those of reference/programs.py, of each of its profiles. Half of them are damaged at one place or two. With profiles, which are
 taken in turn, no text is damaged, and each is written by `--show bare`, `why` and `all`; with `--damaged` each is damaged, and written by one of them. The profile `forms` is that of bench/programs.py,
 with functions and DO WHILE: small texts, a share of which is refused. With `--statements` what is read, refused and written is compared alone, without the lines of analyses, which takes the reference
-much less time. Prints how many texts were accepted, and by which codes the others were refused.
+much less time. With `--reductions` each is written a second time with that word. Prints how many texts were accepted, and by which codes the others were refused.
 The texts that differ are written to the folder for temporary files.
 """
 import argparse
@@ -274,8 +274,13 @@ def given_texts(programs, options):
     """Words and a text, by the words of the script."""
     seeds = range(options.first, options.first + options.count)
     if options.damaged or not options.profiles:
-        return damaged_texts(programs, seeds, options.profiles or sorted(programs.PROFILES), [1, 1, 1, 2, 3] if options.damaged else [0, 0, 0, 1, 1, 2])
-    return whole_texts(programs, seeds, options.profiles, SHOWS[:1] if options.statements else SHOWS)
+        texts = damaged_texts(programs, seeds, options.profiles or sorted(programs.PROFILES), [1, 1, 1, 2, 3] if options.damaged else [0, 0, 0, 1, 1, 2])
+    else:
+        texts = whole_texts(programs, seeds, options.profiles, SHOWS[:1] if options.statements else SHOWS)
+    for words, text in texts:
+        yield words, text
+        if options.reductions:
+            yield [*words, '--reductions'], text
 
 
 def read_and_written(words, text):
@@ -320,6 +325,7 @@ def options_of(words):
     parser = argparse.ArgumentParser(usage=__doc__)
     parser.add_argument('--statements', action='store_true')
     parser.add_argument('--damaged', action='store_true')
+    parser.add_argument('--reductions', action='store_true')
     parser.add_argument('--from', type=int, default=0, dest='first')
     parser.add_argument('count', type=int)
     parser.add_argument('binary', nargs='*')
@@ -330,13 +336,14 @@ def options_of(words):
 
 def main(words):
     options = options_of(words)
-    programs, codes, differing = reference.load('programs'), Counter(), 0
+    programs, codes, differing, reduced = reference.load('programs'), Counter(), 0, 0
     wanted_of, is_other = (read_and_written, writes_otherwise) if options.statements else (reference.answer, differs)
     with tempfile.TemporaryDirectory() as place:
         for number, (words, text) in enumerate(given_texts(programs, options)):
             words = ['--show', 'bare'] if options.statements else words
             wanted = wanted_of(words, text)
             status = wanted[0]
+            reduced += b'REDUCTION' in wanted[1]
             codes[int(wanted[2].split()[3]) if status == 1 else f'status {status}' if status else 'accepted'] += 1
             if is_other(options.binary, place, words, text, wanted):
                 differing += 1
@@ -344,7 +351,7 @@ def main(words):
                 with open(path, 'wb') as f:
                     f.write(text.encode('latin-1'))
                 print(f'differs: {path} {" ".join(words)}', flush=True)
-    print(f'{options.count} texts, {differing} differ; ' + ', '.join(f'{code}: {codes[code]}' for code in sorted(codes, key=str)))
+    print(f'{options.count} texts, {differing} differ, {reduced} answers with a REDUCTION clause; ' + ', '.join(f'{code}: {codes[code]}' for code in sorted(codes, key=str)))
     return differing > 0
 
 

@@ -18,6 +18,21 @@ BASE = ['--base', 'b.json']
 pips = load('pips')
 
 SMALL = b'      I=1\n      END\n'
+SUMS = b'''      INTEGER A(9)
+      DATA A/9*3/
+      K=0
+      L=0
+      DO I=1,9
+      J=A(I)
+      K=K+J
+      END DO
+      DO I=1,9
+      J=I
+      L=MAX(L,J)
+      END DO
+      PRINT *,K,L
+      END
+'''
 SMALLEST = b'      END\n'
 CALLEE = b'''      PROGRAM P
       INTEGER B(100)
@@ -259,6 +274,36 @@ def bases_in_use():
     yield Case([*BASE, 'p.f'], {'p.f': callee + main, 'b.json': part})
 
 
+REDUCED = [*BASE, '--reductions']
+
+
+def reductions_over_bases():
+    """Loops are reduced by the results of the base, also by edited ones, and what is kept is what a run without the flag keeps."""
+    base = base_of(SUMS)
+    def no_sum(value):
+        result(value, 'MARKS', 'MAIN')[0][1] = ['PARALLEL', 'J', 'K']
+    def another_obstacle(value):
+        result(value, 'MARKS', 'MAIN')[0][1] = ['SERIAL', 'Jump']
+    def without_a_mark(value):
+        result(value, 'MARKS', 'MAIN').pop()
+    def nothing_read_first(value):
+        for at, regions in result(value, 'IN_REGIONS', 'MAIN')['at']:
+            regions[:] = [region for region in regions if region['of'] != 'K']
+    def nothing_written(value):
+        for at, regions in result(value, 'REGIONS', 'MAIN')['at']:
+            regions[:] = [region for region in regions if region['of'] not in ('J', 'K')]
+    bases = [base, base_of(SUMS, VERSION_1), base_of(SUMS.replace(b'3/', b'4/')), base_of(CALLEE)]
+    for held in [*bases, *(changed(base, change) for change in (no_sum, another_obstacle, without_a_mark, nothing_read_first, nothing_written))]:
+        yield Case(['--show', 'bare', *REDUCED, 'p.f'], {'p.f': SUMS, 'b.json': held})
+        yield Case(['--show', 'why', *REDUCED, '--verify', 'p.f'], {'p.f': SUMS, 'b.json': held})
+    yield Case([*REDUCED, 'p.f'], {'p.f': SUMS})
+    yield Case(['--reductions', 'p.f'], {'p.f': SUMS, 'b.json': base})
+    yield Case([*REDUCED, '--session', 's'], {'s': b'print\n', 'b.json': base})
+    for call in range(3):
+        yield Case(['--show', 'bare', *REDUCED, 'p.f'], {'p.f': SUMS, 'b.json': base}, store=call)
+        yield Case(['--show', 'bare', *REDUCED, 'p.f'], {'p.f': SUMS}, out=call, piece=40)
+
+
 # ---- the outside
 
 def failing_stores():
@@ -330,7 +375,7 @@ def short_sources():
         yield Case([*BASE, '--session', 's'], {'s': script})
 
 
-GROUPS = [prefixes, versions_and_shapes, format_numbers, big_numbers, edited_bases, bases_of_today, bases_in_use, failing_stores, failing_outs, failing_errs, words, cut_texts, deep_and_long, short_sources]
+GROUPS = [prefixes, versions_and_shapes, format_numbers, big_numbers, edited_bases, bases_of_today, bases_in_use, reductions_over_bases, failing_stores, failing_outs, failing_errs, words, cut_texts, deep_and_long, short_sources]
 
 
 def main():

@@ -9,10 +9,11 @@ import sys
 
 from reference import TOP
 
-README_LIMIT = 10000
+README_LIMIT = 10240
 # where README.md has what is written, beside the source
 COLUMN = 30
-REPORTED = ('heat', 'relief', 'reading')
+# examples, each with the end of the name of its written text
+REPORTED = {'heat': 'out', 'relief': 'out', 'reading': 'out', 'totals': 'all_reduced'}
 
 
 def passes(*words):
@@ -22,7 +23,7 @@ def passes(*words):
 
 def reported(name):
     """Whether the report of an example says on the terminal what is stored, from the stored text of the example."""
-    words = ['tools/report.py', '--written', f'examples/{name}.out', f'examples/{name}.f', '-o', os.devnull]
+    words = ['tools/report.py', '--written', f'examples/{name}.{REPORTED[name]}', f'examples/{name}.f', '-o', os.devnull]
     ran = subprocess.run([sys.executable, *words], cwd=TOP, stdout=subprocess.PIPE)
     with open(os.path.join(TOP, 'tests', 'report', f'{name}.txt'), 'rb') as file:
         return ran.returncode == 0 and ran.stdout == file.read()

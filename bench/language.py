@@ -1,6 +1,6 @@
 #!/usr/bin/env python3
 """Checks the examples of docs/LANGUAGE.md by the reference implementation, table by table: each refusal by its code, name and keyword, each
-text that is to be written instead, each fault by its number, and each loop by its obstacle.
+text that is to be written instead, each fault by its number, and each loop by its obstacle or its REDUCTION clauses.
 
     python3 bench/language.py
 """
@@ -37,9 +37,9 @@ def text_of(example):
     return ''.join(line_of(line) + '\n' for line in lines)
 
 
-def written(text, show):
+def written(text, show, *flags):
     """The lines that are written of a text, or None where it is refused."""
-    status, out, _ = answer(['--show', show], text)
+    status, out, _ = answer(['--show', show, *flags], text)
     return out.decode('latin-1').splitlines() if status == 0 else None
 
 
@@ -99,11 +99,33 @@ def check_obstacle(name, line, example, change):
     return check_loop(name, example, line, change)
 
 
+def reduced(cell):
+    """What is written of an example with `--reductions`, and whether that has a REDUCTION clause."""
+    lines = written(text_of(span(cell)), 'why', '--reductions')
+    return lines, lines is not None and any('REDUCTION(' in line for line in lines)
+
+
+def check_reduced(_, __, example, line):
+    lines, _ = reduced(example)
+    if lines is None or span(line) not in lines:
+        return f'has not the line {line}'
+    return None if directives(written(text_of(span(example)), 'why')) < directives(lines) else 'is parallel without the flag'
+
+
+def check_not_reduced(_, example, helps):
+    lines, clause = reduced(example)
+    if lines is None or clause:
+        return 'has a REDUCTION clause' if clause else 'is refused'
+    return None if helps == 'nothing' or reduced(helps)[1] else 'what helps has no REDUCTION clause'
+
+
 CHECKS = {
     ('Code', 'Name', 'Where', 'Example'): check_refusal,
     ('Fault', 'Name', 'What ends the run', 'Everyday forms of it', 'Example'): check_fault,
     ('Construct', 'For example', 'Answer', 'Write instead'): check_instead,
     ('Input', 'Is written as'): check_written,
+    ('Operator', 'Assignments', 'Example', 'Line'): check_reduced,
+    ('Not recognised', 'For example', 'What helps'): check_not_reduced,
     ('Reason', 'For example', 'Line', 'What helps'): check_loop,
     ('Program', 'Line', 'Text', 'What to change'): check_obstacle,
 }

@@ -1,14 +1,17 @@
 #!/usr/bin/env python3
 """Compiles the texts that a command writes of random programs by gfortran, and runs their parallel loops with several threads.
 
-    python3 bench/openmp.py [--profile NAME] COUNT [COMMAND..]
+    python3 bench/openmp.py [--profile NAME] [--reductions] [--from SEED] COUNT [COMMAND..]
 
 Needs gfortran with OpenMP (libgomp). COUNT programs of reference/programs.py, of its profiles in turn or of one. COMMAND, the built program where none is given, writes each of them with --show bare, why and all. Each text has to be
 compiled with -fopenmp and without. Where a run on one of the program's inputs conforms and ends, by the reference interpreter, the text of --show bare has to print what that run prints: without -fopenmp, and with it by 1, 2, 4 and
 8 threads. Prints each difference, and how much was compared.
+With --reductions COMMAND gets that word too, and COUNT programs with a REDUCTION clause are compared, by --show bare alone; others are passed over. Sums of copies may pass 32 bits on the way: gfortran lets them wrap.
 Before the command writes directives: python3 bench/openmp.py 3 python3 reference/pips.py --stage marks
 """
+import argparse
 import collections
+import itertools
 import os
 import re
 import signal
@@ -90,13 +93,24 @@ def compare(made, runs, say, counts):
                 break
 
 
+def clauses_of(text):
+    """How many REDUCTION clauses a text has; one may be cut at the end of a line."""
+    return text.replace('\nC$OMP&', '').count('REDUCTION(')
+
+
 def try_program(command, place, seed, profile, soundness, programs, counts):
     text, inputs = programs.make(seed, profile)
     counts['programs'] += 1
-    answers = {show: written(command, place, show, text) for show in SHOWS}
+    reduces = '--reductions' in command
+    answers = {show: written(command, place, show, text) for show in (SHOWS[:1] if reduces else SHOWS)}
     if any(status for status, _ in answers.values()):
         counts['refused'] += 1
         return
+    clauses = clauses_of(answers['bare'][1])
+    if reduces and not clauses:
+        return
+    counts['clauses'] += clauses
+    counts['programs with a clause'] += clauses > 0
 
     def say(what):
         counts['differences'] += 1
@@ -117,18 +131,27 @@ def try_program(command, place, seed, profile, soundness, programs, counts):
     compare(made, runs, say, counts)
 
 
-def main(*words):
-    profiles, words = ((words[1],), words[2:]) if words[0] == '--profile' else (PROFILES, words)
-    count, command = words[0], list(words[1:]) or [binary_of([])]
+def main():
+    words = argparse.ArgumentParser()
+    words.add_argument('--profile', action='append')
+    words.add_argument('--reductions', action='store_true')
+    words.add_argument('--from', type=int, default=0, dest='first')
+    words.add_argument('count', type=int)
+    words.add_argument('command', nargs='*')
+    given = words.parse_args()
+    command, profiles = given.command or [binary_of([])], given.profile or PROFILES
+    command += ['--reductions'] if given.reductions else []
     programs, soundness = reference.load('programs'), reference.load('soundness')
     counts = collections.Counter()
-    for seed in range(int(count)):
+    for seed in itertools.count(given.first):
+        if counts['programs with a clause' if given.reductions else 'programs'] == given.count:
+            break
         with tempfile.TemporaryDirectory() as place:
             try_program(command, place, seed, profiles[seed % len(profiles)], soundness, programs, counts)
-    names = ('programs', 'refused', 'programs with one', 'directives', 'texts compiled', 'runs of the reference', 'runs compared', 'too slow for the reference', 'differences')
+    names = ('programs', 'refused', 'programs with one', 'directives', 'programs with a clause', 'clauses', 'texts compiled', 'runs of the reference', 'runs compared', 'too slow for the reference', 'differences')
     print(', '.join(f'{counts[name]} {name}' for name in names))
     return counts['differences'] > 0
 
 
 if __name__ == '__main__':
-    sys.exit(main(*sys.argv[1:]))
+    sys.exit(main())

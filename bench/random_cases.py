@@ -4,7 +4,8 @@
     python3 bench/random_cases.py [COUNT]
 
 COUNT random programs of every form, 200 where it is not given, and 40 with functions and DO WHILE; then with `--show all` the programs of region_programs.py, in_programs.py and out_programs.py that are
-accepted, those by hand and random ones, as many of each as REGIONS says. The lines that their scripts want must be among those written, or it stops.
+accepted, those by hand and random ones, as many of each as REGIONS says. The lines that their scripts want must be among those written, or it stops. Last come REDUCED programs of the reference's random ones, with
+`--show why --reductions`, half of which have a REDUCTION clause at least.
 """
 import os
 import sys
@@ -22,6 +23,7 @@ from region_programs import region_programs
 # programs of array regions of each kind
 REGIONS = 150
 FUNCTIONS = 40
+REDUCED = 40
 
 
 def code_of(status, err):
@@ -58,10 +60,23 @@ def of_regions():
                 break
 
 
+def of_reductions():
+    """Short programs that sum: as many with a REDUCTION clause as without."""
+    words, left = '--show why --reductions', {True: REDUCED // 2, False: REDUCED // 2}
+    for seed in range(1_000):
+        program = load('programs').make(seed, 'sums' if seed % 4 else 'reduce')[0]
+        if len(program) < 2_500 and any(left.values()):
+            status, out, _ = answer(words.split(), program)
+            has_clause = b'REDUCTION(' in out
+            if status == 0 and left[has_clause]:
+                left[has_clause] -= 1
+                yield words, program
+
+
 def main(count=200):
     sys.setrecursionlimit(1_000_000)
     given, wanted, codes = [], [], Counter()
-    for words, program in [*random_programs(int(count)), *random_programs(FUNCTIONS, 2, True), *of_regions()]:
+    for words, program in [*random_programs(int(count)), *random_programs(FUNCTIONS, 2, True), *of_regions(), *of_reductions()]:
         status, out, err = answer(words.split(), program)
         given.append(f'{program}\n== {words} p.f\n'.encode('latin-1'))
         wanted.append(f'== {status_of(err) if status else "Done"}\n'.encode() + out + err)

@@ -9,7 +9,7 @@ TOP = os.path.dirname(HERE)
 FOLDER = os.path.join(TOP, 'reference')
 
 # the stage at which the reference answers as the command does today (reference/README.md lists them)
-STAGE = 'functions'
+STAGE = 'reductions'
 # the last stage that keeps bases of version 1, and the last with the format number 1 of every kind
 VERSION_1, FORMATS_1 = 'verify', 'base-2'
 

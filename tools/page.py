@@ -4,7 +4,7 @@ from html import escape
 from typing import Dict, List, Optional, Tuple
 
 from calls import drawing
-from reasons import LONG, accesses_in_words, in_words
+from reasons import LONG, accesses_in_words, clauses_in_words, in_words
 from written import Loop, Program, Statement, is_title, obstacles
 
 STYLE = """
@@ -97,7 +97,8 @@ def mark_in_words(loop: Loop) -> str:
     """Why a loop is parallel or serial, with a link to what the reason means."""
     if loop.private is not None:
         copies = f', each with its own <code>{escape(loop.private)}</code>' if loop.private else ''
-        return f'<p>Parallel: its iterations may run in any order{copies}.</p>'
+        reduced = f' Copies are combined: {escape(clauses_in_words(loop.reductions))}.' if loop.reductions else ''
+        return f'<p>Parallel: its iterations may run in any order{copies}.{reduced}</p>'
     accesses = accesses_in_words(loop.obstacle)
     more = f' ({accesses})' if accesses else ''
     return f'<p>Serial: {escape(in_words(loop.obstacle))}{more}. <a href="#why-{loop.reason}">What {loop.reason} means</a></p>'
@@ -115,7 +116,9 @@ def said_of(statements: List[Statement], loop: Optional[Loop]) -> str:
 def badge(loop: Loop) -> str:
     """The mark of a loop at the end of its line."""
     if loop.private is not None:
-        return f'<span class="mark yes">parallel{", own " + escape(loop.private) if loop.private else ""}</span>'
+        own = [f'own {escape(loop.private)}'] if loop.private else []
+        reduced = [f'{escape(word)} of {escape(name)}' for word, name in loop.reductions]
+        return f'<span class="mark yes">{", ".join(["parallel", *own, *reduced])}</span>'
     name = loop.obstacle.split()[0]
     of = f' of {escape(name)}' if name != loop.reason else ''
     return f'<span class="mark no">serial: <a href="#why-{loop.reason}">{loop.reason}</a>{of}</span>'

@@ -1,5 +1,5 @@
 """The marks of loops in words, as docs/LANGUAGE.md explains them."""
-from typing import Dict
+from typing import Dict, List, Tuple
 
 # What the last word of an obstacle means, in one sentence and at length.
 SHORT: Dict[str, str] = {
@@ -22,7 +22,8 @@ LONG: Dict[str, str] = {
     'Name': 'Copies of the variable would help, but an iteration cannot have one: the variable is in COMMON or EQUIVALENCE, a dummy, saved, or has '
             'DATA; or the bounds of the DO read it. Work in a local variable, and set the other one after the loop.',
     'Carried': 'An iteration may read what an earlier one wrote, as in sums, in recurrences, and of a variable that is written under a condition '
-               'alone. Compute from what the loop does not write, or write the variable in each iteration before it is read.',
+               'alone. Compute from what the loop does not write, or write the variable in each iteration before it is read. With --reductions '
+               'loops that sum, or find the greatest or least, may be parallel.',
     'Live': 'Copies of the variable would help, but the value that the last iteration leaves may be read after the loop, also by callers and in '
             'later calls. Read it later from where the loop put it.',
 }
@@ -32,6 +33,20 @@ ACCESSES: Dict[str, str] = {
     'R-W': 'read by one iteration and written by a later one',
     'W-W': 'written by two iterations',
 }
+
+
+OPERATORS: Dict[str, str] = {
+    '+': 'the sum',
+    'MAX': 'the greatest value',
+    'MIN': 'the least value',
+    '.AND.': 'whether all hold',
+    '.OR.': 'whether one holds',
+}
+
+
+def clauses_in_words(reductions: List[Tuple[str, str]]) -> str:
+    """REDUCTION clauses in words: `K for the sum, M for the greatest value`."""
+    return ', '.join(f'{name} for {OPERATORS[word]}' for word, name in reductions)
 
 
 def in_words(obstacle: str) -> str:

@@ -4,6 +4,7 @@
     tools/report.py FILE..                  # a line `FILE:LINE: note: ..` for each loop, and a summary
     tools/report.py FILE.. -o PAGE          # and one HTML file: the sources with what is said of each statement, and who calls whom
     tools/report.py --written TEXT FILE     # the text that `./pips --show all FILE` wrote stands in TEXT, and the command is not started
+    tools/report.py --reductions FILE..     # by `./pips --reductions`: loops with REDUCTION clauses are parallel too
 
 Each FILE is a program of its own. The status is 1 where one is refused, and 2 where the command or a file cannot be used.
 """
@@ -18,7 +19,7 @@ sys.dont_write_bytecode = True
 sys.path.insert(0, os.path.dirname(os.path.realpath(__file__)))
 
 from page import page_of  # noqa: E402
-from reasons import in_words  # noqa: E402
+from reasons import clauses_in_words, in_words  # noqa: E402
 from written import Loop, Program, obstacles, program_of  # noqa: E402
 
 PIPS = os.path.join(os.path.dirname(os.path.dirname(os.path.realpath(__file__))), 'pips')
@@ -46,9 +47,9 @@ def refusal_of(path: str, said: str) -> Optional[str]:
     return f'{path}:{found.group(1)}: error: {found.group(2)}' if found else None
 
 
-def written_text(path: str) -> Optional[str]:
+def written_text(path: str, flags: List[str]) -> Optional[str]:
     """What the command writes of a file. None where it is refused, which is then said."""
-    ran = subprocess.run([PIPS, '--show', 'all', '--', path], stdin=subprocess.DEVNULL, stdout=subprocess.PIPE, stderr=subprocess.PIPE)
+    ran = subprocess.run([PIPS, '--show', 'all', *flags, '--', path], stdin=subprocess.DEVNULL, stdout=subprocess.PIPE, stderr=subprocess.PIPE)
     said = ran.stderr.decode('latin-1')
     if ran.returncode == 0:
         print(said, end='', file=sys.stderr)
@@ -61,10 +62,10 @@ def written_text(path: str) -> Optional[str]:
     return None
 
 
-def read(path: str, written: Optional[str]) -> Optional[Program]:
+def read(path: str, written: Optional[str], flags: List[str]) -> Optional[Program]:
     """A file with what is said of it, in the text of the file `written` or by the command."""
     source = content(path)
-    text = written_text(path) if written is None else content(written)
+    text = written_text(path, flags) if written is None else content(written)
     return None if text is None else program_of(path, source, text)
 
 
@@ -75,8 +76,9 @@ def note_of(path: str, loop: Loop) -> str:
     start = f'{path}:{loop.statement.first}: note: {loop.statement.text}'
     if loop.private is None:
         return f'{start}: serial, {loop.obstacle}: {in_words(loop.obstacle)}'
-    copies = f', with copies of {loop.private}' if loop.private else ''
-    return f'{start}: parallel{copies}'
+    copies = [f'copies of {loop.private}'] if loop.private else []
+    reduced = [f'REDUCTION clauses ({clauses_in_words(loop.reductions)})'] if loop.reductions else []
+    return f'{start}: parallel' + (f', with {" and ".join(copies + reduced)}' if copies or reduced else '')
 
 
 def count(number: int, word: str) -> str:
@@ -88,8 +90,10 @@ def summary_of(program: Program) -> str:
     serial = obstacles(program)
     parallel = len(program.loops) - sum(serial.values())
     why = ', '.join(f'{number} {reason}' for reason, number in serial.items())
+    clauses = sum(len(loop.reductions) for loop in program.loops)
+    reduced = f' ({count(sum(bool(loop.reductions) for loop in program.loops), "loop")} with {count(clauses, "REDUCTION clause")})' if clauses else ''
     counts = f'{count(len(program.modules), "module")}, {count(len(program.loops), "loop")}'
-    return f'{program.name}: {counts}, {parallel} parallel, {sum(serial.values())} serial' + (f' ({why})' if why else '')
+    return f'{program.name}: {counts}, {parallel} parallel{reduced}, {sum(serial.values())} serial' + (f' ({why})' if why else '')
 
 
 def tell(program: Program) -> None:
@@ -105,6 +109,7 @@ def words() -> argparse.Namespace:
     parser.add_argument('files', nargs='+', metavar='FILE', help='a program in fixed-form FORTRAN 77')
     parser.add_argument('-o', dest='page', metavar='PAGE', help='the HTML file to be written')
     parser.add_argument('--written', metavar='TEXT', action='append', default=[], help='what --show all wrote of FILE; one for each FILE, in their order')
+    parser.add_argument('--reductions', action='store_true', help='loops with REDUCTION clauses are parallel too')
     given = parser.parse_args()
     if given.written and len(given.written) != len(given.files):
         parser.error('--written is given once for each FILE')
@@ -115,7 +120,8 @@ def main() -> int:
     given = words()
     sys.stdout.reconfigure(errors='surrogateescape')
     texts: List[Optional[str]] = given.written or [None] * len(given.files)
-    found = [read(path, text) for path, text in zip(given.files, texts)]
+    flags = ['--reductions'] if given.reductions else []
+    found = [read(path, text, flags) for path, text in zip(given.files, texts)]
     programs = [program for program in found if program]
     for program in programs:
         tell(program)

@@ -34,12 +34,19 @@ class Loop:
     depth: int
 
     @property
+    def directive(self) -> Optional[str]:
+        """The directive of a parallel loop, in one line; None where the loop is serial."""
+        return next((line for line in self.statement.said if line.startswith('C$OMP PARALLEL DO')), None)
+
+    @property
     def private(self) -> Optional[str]:
-        """The names of the directive of a parallel loop; None where the loop is serial."""
-        for line in self.statement.said:
-            if line.startswith('C$OMP PARALLEL DO'):
-                return (re.findall(r'PRIVATE\((.*)\)', line) or [''])[0]
-        return None
+        """The private names of a parallel loop; None where the loop is serial."""
+        return None if self.directive is None else (re.findall(r'PRIVATE\(([^)]*)\)', self.directive) or [''])[0]
+
+    @property
+    def reductions(self) -> List[Tuple[str, str]]:
+        """The operator and the name of each REDUCTION clause."""
+        return re.findall(r'REDUCTION\(([^:]*):([^)]*)\)', self.directive or '')
 
     @property
     def obstacle(self) -> str:
@@ -106,7 +113,7 @@ def written_statements(lines: List[str]) -> Iterator[Tuple[str, str, List[str]]]
     label, text, before = '', '', said
     for line in lines:
         if line.startswith('C$OMP&'):
-            said[-1] += line[6:].strip()
+            said[-1] += line[6:]
         elif line.startswith(('C> ', 'C$OMP ')):
             said.append(line)
         elif is_comment(line):

@@ -20,6 +20,7 @@ options_in rows = record {
   verify = is_true (first_of (codes "verify") rows);
   session = is_true (first_of (codes "session") rows);
   generate = first_of (codes "generate") rows;
+  reductions = is_true (first_of (codes "reductions") rows);
   input = first_of (codes "input") rows;
 }
 

@@ -66,6 +66,7 @@ pub struct Options {
     pub verify: bool,
     pub session: bool,
     pub generate: Option<Text>,
+    pub reductions: bool,
     pub input: Option<Text>,
 }
 
@@ -87,6 +88,7 @@ fn options_of(alloc: Global, matches: &ArgMatches<'_>) -> Result<Options, AllocE
     let verify = is_set(matches, "verify");
     let session = is_set(matches, "session");
     let generate = value_of(alloc, matches, "generate")?;
+    let reductions = is_set(matches, "reductions");
     let input = value_of(alloc, matches, "input")?;
     Ok(Options {
         show,
@@ -94,6 +96,7 @@ fn options_of(alloc: Global, matches: &ArgMatches<'_>) -> Result<Options, AllocE
         verify,
         session,
         generate,
+        reductions,
         input,
     })
 }

@@ -1,6 +1,6 @@
 //! What words request.
 ghost use Rattle.std.specs.Prelude.{◌≡◌, ◌≤◌, ◌+◌, ◌*◌, IfOk, IfSome};
-ghost use Rattle.command_words.specs.Requests.{RequestedBy, show_named, shown, with_digit, number_named, count_named, is_alone, task_of, may_be_base, can_verify, input_name, request_in};
+ghost use Rattle.command_words.specs.Requests.{RequestedBy, show_named, shown, with_digit, number_named, count_named, is_alone, session_task, task_of, may_be_base, can_verify, input_name, request_in};
 
 use crate::options::{Options, Read, options_in_words};
 use fx_base::Words;
@@ -38,6 +38,8 @@ pub struct Request {
     pub base: Option<Text>,
     /// Whether the results in the base are to be verified.
     pub verify: bool,
+    /// Whether loops with reduction variables run in parallel.
+    pub reductions: bool,
     /// The name of INPUT; `-` is standard input.
     pub input: Text,
 }
@@ -112,7 +114,22 @@ fn count_named(word: &[u8]) -> Option<u8>
 fn is_alone(options: &Options) -> bool
     ensures { result ≡ is_alone options.now }
 {
-    options.input.is_none() && !options.session && options.base.is_none() && !options.verify
+    options.input.is_none()
+        && !options.session
+        && options.base.is_none()
+        && !options.verify
+        && !options.reductions
+}
+
+/// The task of `--session`, which does not stand with `--reductions`.
+fn session_task(options: &Options) -> Option<Task>
+    ensures { result ≡ session_task options.now }
+{
+    if options.reductions {
+        None
+    } else {
+        Some(Task::Session)
+    }
 }
 
 /// What is to be done.
@@ -122,7 +139,7 @@ fn task_of(options: &Options) -> Option<Task>
     match &options.generate {
         None => {
             if options.session {
-                Some(Task::Session)
+                session_task(options)
             } else {
                 Some(Task::Write)
             }
@@ -179,6 +196,7 @@ fn request_in(alloc: Global, options: Options) -> Result<Option<Request>, Memory
             show,
             base: options.base,
             verify: options.verify,
+            reductions: options.reductions,
             input: input_name(alloc, options.input)?,
         })),
         _ => Ok(None),
@@ -186,8 +204,8 @@ fn request_in(alloc: Global, options: Options) -> Result<Option<Request>, Memory
 }
 
 /// What the words after the program's name request. None where they are no words of the command: an option is unknown, stands twice or
-/// has no value, or a value is not one that it takes; a word is not UTF-8; there are two INPUTs; `--verify` stands without `--base`, or
-/// `--generate` with another option than `--show` or with INPUT.
+/// has no value, or a value is not one that it takes; a word is not UTF-8; there are two INPUTs; `--verify` stands without `--base`,
+/// `--generate` with another option than `--show` or with INPUT, or `--reductions` with `--session`.
 pub fn request_of(alloc: Global, words: &Words) -> Result<Option<Request>, Memory>
     ensures { RequestedBy words.now result }
 {

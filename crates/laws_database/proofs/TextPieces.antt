@@ -5,6 +5,7 @@ use Rattle.f77_ast.specs.DeclTrees.{ParsedTree}
 use Rattle.f77_ast.specs.Symbols.{SymbolTree}
 use Rattle.storage_layout.specs.Symbols.{symbols_of}
 use Rattle.call_graph.specs.Links.{link_of}
+use Rattle.f77_meaning.specs.Modules.{known_of}
 use Rattle.fixed_form.specs.declared.source.Piece.{Piece}
 use Rattle.fixed_form.specs.Pieces.{pieces_of}
 use Rattle.laws_programs.specs.roundtrip_programs.Laws.{tree_of, TablesIgnorePlaces, GraphsIgnorePlaces}
@@ -17,7 +18,7 @@ use Rattle.session_texts.specs.pipsmake_meaning.Texts.{ModuleText, module_read, 
 use Rattle.laws_database.specs.ProgramTexts.{name_of, lines_found, program_text, texts_of}
 use Rattle.laws_database.specs.ProgramTextLaws.{PiecesAreTheProgram}
 use Rattle.laws_database.proofs.TextRead.{all-read}
-use Rattle.laws_database.proofs.TextSame.{same-text}
+use Rattle.laws_database.proofs.TextSame.{same-known, same-text}
 use Rattle.session_texts.proofs.SourceTexts.{read_alone}
 
 -- ---- each piece is a module
@@ -77,5 +78,7 @@ pieces_are_the_program tables_law graphs_law pieces_law trees_law law text ms ta
       modules = h;
       tabled = tabled;
       linked = ap (link_of alone) tabled ∙ linked;
+      known = ap (known_of alone) tabled ∙ same-known alone ms tables same;
+      alike = λ added. law text ms alone added p.read read;
       written = λ show. ap (λ x. program_text show ms x g) (sym tabled) ∙ same-text show ms ts g (sym same) (λ fs. sym (law text ms alone (lines_found show fs) p.read read));
     }

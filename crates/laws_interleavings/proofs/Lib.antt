@@ -22,3 +22,4 @@ pub mod Plain
 pub mod Enough
 pub mod ReducedExample
 pub mod Plans
+pub mod Accumulating

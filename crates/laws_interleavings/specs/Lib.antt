@@ -11,6 +11,7 @@ pub mod Strict
 pub mod Typed
 pub mod Holds
 pub mod Accumulating
+pub mod Accumulated
 pub mod MarkedStatements
 pub mod MarkedPrograms
 pub mod Laws

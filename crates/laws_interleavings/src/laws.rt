@@ -1,5 +1,6 @@
 //! The laws.
 ghost use Rattle.laws_interleavings.specs.Laws.{InterleavingsAgree, LoopsInterleave, MarkedRunsAgree, LongSchedulesEnd, MarksAreForgotten};
+ghost use Rattle.laws_interleavings.specs.Accumulated.{BodiesRide};
 
 /// Processes of which each, begun after those before it, does some reads and writes alone, and of which no two meet in a unit that one of them writes, do
 /// the same in any interleaving.
@@ -28,4 +29,10 @@ pub fn long_schedules_end()
 /// A program with marked loops, without its marks, is the program.
 pub fn marks_are_forgotten()
     ensures { MarksAreForgotten }
+{}
+
+/// A body each statement of which is an assignment that accumulates in a reduction variable, or has no name that reaches one, uses these variables to accumulate only, also
+/// where its sums wrap.
+pub fn bodies_ride()
+    ensures { BodiesRide }
 {}

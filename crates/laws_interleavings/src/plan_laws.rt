@@ -1,5 +1,5 @@
 //! The laws.
-ghost use Rattle.laws_interleavings.specs.Plans.Laws.{ModulesAreFine, CallsLeaveUnitsCleared, ListsLeaveUnitsCleared, ModulesAvoid, StatementsAvoid, AvoidingRuns, NumbersStayInRange};
+ghost use Rattle.laws_interleavings.specs.Plans.Laws.{ModulesAreFine, CallsLeaveUnitsCleared, ListsLeaveUnitsCleared, ModulesAvoid, StatementsAvoid, AvoidingRuns, ProgramsAreRanged, NumbersStayInRange};
 ghost use Rattle.laws_interleavings.specs.Plans.Uses.{FinePlansServe, MarkedProgramsAreStrict};
 
 /// Modules whose variables have types read no unit without a value but to fault, write no unit that is locked, and change without an event only units of their own.
@@ -40,6 +40,11 @@ pub fn statements_avoid()
 /// Runs of what does not touch a unit, from stores that differ at the unit alone, are the same, have no event of it, and leave its contents.
 pub fn avoiding_runs()
     ensures { AvoidingRuns }
+{}
+
+/// Where numbers of 32 bits are read, a program with constants and literals of 32 bits writes such.
+pub fn programs_are_ranged()
+    ensures { ProgramsAreRanged }
 {}
 
 /// In every run of a program with constants, literals and first contents of 32 bits, numbers of 32 bits alone are read and written, and are in the units.

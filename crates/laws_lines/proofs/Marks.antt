@@ -1,4 +1,5 @@
 pub mod Cuts
+pub mod Clauses
 pub mod DirectiveBack
 pub mod Passed
 pub mod Unique

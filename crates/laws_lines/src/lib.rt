@@ -13,8 +13,8 @@ pub use laws::{
     analyses_are_over_cells, analyses_are_read_back, names_are_distinct, names_are_words,
 };
 pub use mark_laws::{
-    claims_read_back, directives_read_back, mark_lines_are_passed_over, marks_read_back,
-    obstacles_are_no_directives, reading_is_unique, texts_are_written_again,
+    claims_read_back, directives_read_back, loop_lines_are_passed_over, marks_read_back,
+    obstacles_are_no_directives, reading_is_unique, reductions_read_back, texts_are_written_again,
 };
 pub use out_laws::{all_out_lines_pass, out_lines_mean_regions, outs_are_over_places};
 pub use region_laws::{

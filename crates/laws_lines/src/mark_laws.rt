@@ -1,11 +1,16 @@
-//! The laws of lines of marks.
+//! The laws of lines on loops.
 ghost use Rattle.laws_lines.specs.Marks.WholeLaws.{MarksReadBack, TextsAreWrittenAgain};
 ghost use Rattle.laws_lines.specs.Marks.ClaimLaws.{ClaimsReadBack};
-ghost use Rattle.laws_lines.specs.Marks.Laws.{DirectivesReadBack, ObstaclesAreNoDirectives, MarkLinesArePassedOver, ReadingIsUnique};
+ghost use Rattle.laws_lines.specs.Marks.Laws.{DirectivesReadBack, LoopLinesArePassedOver, ObstaclesAreNoDirectives, ReadingIsUnique, ReductionsReadBack};
 
-/// The lines of a directive are read as the names of its private variables.
+/// The lines of a directive without REDUCTION clauses are read as the names of its private variables.
 pub fn directives_read_back()
     ensures { DirectivesReadBack }
+{}
+
+/// The lines of any directive are read as the names of its private variables, and as its REDUCTION clauses: operators and names.
+pub fn reductions_read_back()
+    ensures { ReductionsReadBack }
 {}
 
 /// The line of an obstacle is no line for compilers.
@@ -13,9 +18,9 @@ pub fn obstacles_are_no_directives()
     ensures { ObstaclesAreNoDirectives }
 {}
 
-/// Each line of the marks of a module is a comment line that reading drops.
-pub fn mark_lines_are_passed_over()
-    ensures { MarkLinesArePassedOver }
+/// Each line on the loops of a module is a comment line that reading drops.
+pub fn loop_lines_are_passed_over()
+    ensures { LoopLinesArePassedOver }
 {}
 
 /// A text is read as one program, with one choice of marked loops, or not at all.
@@ -23,7 +28,7 @@ pub fn reading_is_unique()
     ensures { ReadingIsUnique }
 {}
 
-/// The written text of a program with the lines of its marks is read, with its directives, as that program with these marks.
+/// The written text of a program with the lines on its loops is read, with its directives, as that program with just its parallel loops marked, each with its clauses.
 pub fn marks_read_back()
     ensures { MarksReadBack }
 {}

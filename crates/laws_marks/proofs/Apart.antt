@@ -129,9 +129,10 @@ module _ (ps : List ParsedTree) (sss : List (List SymbolTree)) (g : Graph) (x : 
   fit = integers_fit x.lines ps sss x.parsed x.tables
 
   -- a variable of a module that is no dummy, and lies in an area
-  pub off_from : (i : ℕ) (p : ParsedTree) (ss : List SymbolTree) → IsModule ps sss i p ss → (u : ℕ) →
-      ((y : List ℕ) (v : ℕ) (s : SymbolTree) (a : Area) → names ss y ≡ Variable v → symbol_at ss v ≡ Some s → area_of p.module_read.name s.place ≡ Some a → in_place (fixed (units ps sss g) (known p ss) v) u ≡ true → ⊥) → FixedOff u (routine (known_of ps sss) g (known p ss))
-  off_from i p ss m u free word v e n = go (lying ss v (variable_of ss word v e))
+  pub off_one : (i : ℕ) (p : ParsedTree) (ss : List SymbolTree) → IsModule ps sss i p ss → (u : ℕ) (y : List ℕ) (v : ℕ) → names ss y ≡ Variable v → IsNoDummy (dummies_from 1 ss) v →
+      ((s : SymbolTree) (a : Area) → symbol_at ss v ≡ Some s → area_of p.module_read.name s.place ≡ Some a → in_place (fixed (units ps sss g) (known p ss) v) u ≡ true → ⊥) →
+      (in_place (fixed (units ps sss g) (known p ss) v) u ≡ false) × (nat_eq (fixed (units ps sss g) (known p ss) v).first u ≡ false)
+  off_one i p ss m u word v e n free = go (lying ss v (variable_of ss word v e))
     where
       solid : (s : SymbolTree) (q : Place) → symbol_at ss v ≡ Some s → s.place ≡ q → ((c : _) → q ≡ place.Constant c → ⊥) → ((k : ℕ) → q ≡ place.Dummy k → ⊥) → 0 < units_in ss s
       solid s q f h a b = units_positive p ss (laid i p ss m) (fit i p ss m) v s f (λ c z. a c (sym h ∙ z)) (λ k z. b k (sym h ∙ z))
@@ -144,11 +145,15 @@ module _ (ps : List ParsedTree) (sss : List (List SymbolTree)) (g : Graph) (x : 
       go (lying_local s h o f q d) =
           let z = ap (λ (r : places.Place). r.extent) (extent s (place.Local h o) f q) in
           let y = solid s (place.Local h o) f q (λ c w. cc) (λ k w. cc) in
-          place_off (fixed (units ps sss g) (known p ss) v) u (omega (arith, z, y)) (free word v s (group p.module_read.name h) e f (ap (area_of p.module_read.name) q))
+          place_off (fixed (units ps sss g) (known p ss) v) u (omega (arith, z, y)) (free s (group p.module_read.name h) f (ap (area_of p.module_read.name) q))
       go (lying_common s b o f q d) =
           let z = ap (λ (r : places.Place). r.extent) (extent s (place.Block b o) f q) in
           let y = solid s (place.Block b o) f q (λ c w. cc) (λ k w. cc) in
-          place_off (fixed (units ps sss g) (known p ss) v) u (omega (arith, z, y)) (free word v s (block b) e f (ap (area_of p.module_read.name) q))
+          place_off (fixed (units ps sss g) (known p ss) v) u (omega (arith, z, y)) (free s (block b) f (ap (area_of p.module_read.name) q))
+
+  pub off_from : (i : ℕ) (p : ParsedTree) (ss : List SymbolTree) → IsModule ps sss i p ss → (u : ℕ) →
+      ((y : List ℕ) (v : ℕ) (s : SymbolTree) (a : Area) → names ss y ≡ Variable v → symbol_at ss v ≡ Some s → area_of p.module_read.name s.place ≡ Some a → in_place (fixed (units ps sss g) (known p ss) v) u ≡ true → ⊥) → FixedOff u (routine (known_of ps sss) g (known p ss))
+  off_from i p ss m u free word v e n = off_one i p ss m u word v e n (λ s a. free word v s a e)
 
   -- ---- the unit of an expression
 

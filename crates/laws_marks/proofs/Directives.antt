@@ -58,7 +58,7 @@ module _ (ps : List ParsedTree) (sss : List (List SymbolTree)) (g : Graph) (x : 
       (each_two (MarksStand ps sss g x copies) (λ (f : ModuleResults). UnitsOf y (phases_of f)) (NamesOf y) one (all_marks g fs) (marks_stand ps sss g x copies) (with_their_marks g (UnitsOf y) fs (each_of_all (UnitsOf y) fs h)))
     where
       one : (f : ModuleResults) → MarksStand ps sss g x copies f → UnitsOf y (phases_of f) → NamesOf y f
-      one f s u n l is_do ns v = names_stand (known_of ps sss) g f s.module_stands.numbered s.is s.module_stands.tables y (u n) l is_do ns v
+      one f s u n l is_do reductions r v = names_stand (known_of ps sss) g f s.module_stands.numbered s.is s.module_stands.tables y (u n) l is_do reductions r v
 
   -- ---- places
 
@@ -71,7 +71,7 @@ module _ (ps : List ParsedTree) (sss : List (List SymbolTree)) (g : Graph) (x : 
       each_two (MarksStand ps sss g x copies) (λ (f : ModuleResults). UnitsOf y (phases_of f)) (PlacesOf y) one (all_marks g fs) (marks_stand ps sss g x copies) (with_their_marks g (UnitsOf y) fs (each_of_all (UnitsOf y) fs h))
     where
       one : (f : ModuleResults) → MarksStand ps sss g x copies f → UnitsOf y (phases_of f) → PlacesOf y f
-      one f s u n l is_do ns v = places_stand (known_of ps sss) g f s.module_stands.numbered s.is s.module_stands.tables y (u n) l is_do ns v
+      one f s u n l is_do reductions r v = places_stand (known_of ps sss) g f s.module_stands.numbered s.is s.module_stands.tables y (u n) l is_do reductions r v
 
   pub read_names_stand : ReadUnitsStand → (turns : ℕ) (input : List Content) → AtEachExecution (AllNamesStand (known_of ps sss) g (all_marks g (outs_of ps sss g))) (program_plan (program_of (known_of ps sss) g) turns) (program_of (known_of ps sss) g).initial input
   read_names_stand units turns input =
@@ -98,9 +98,9 @@ module _ (ps : List ParsedTree) (sss : List (List SymbolTree)) (g : Graph) (x : 
       where
         go : (j : ℕ) → p.statement ≡ j → MarkedLoopIsDead (known_of ps sss) g f (record { spot = p; places = places_in p.statement t s i at; start = s; ran = run_of t s i; later = later })
         go zero e = λ l is_do. absurd (no_entry ps sss g x copies (phases_of f) st.module_stands l (subst (λ k. loop_in k f.known.read.body ≡ Some l) e is_do))
-        go (suc j) e = λ l is_do ns v xs are sc body r u inner locked i2 same ran begins quiet.
-            loop_is_dead xs sc body (places_in p.statement t s i at) r u inner l locked s i2 begins begun quiet (known_of ps sss) g (scope_of g.untracked f.known) (loop_with g (phases_of f).known l) ns seen refl ran same are
-            (subst (λ (q : Places). NamesStand (known_of ps sss) g (scope_of g.untracked f.known) (names f.known.symbols) (loop_with g (phases_of f).known l) l ns q) (sym (ap (λ k. places_in k t s i at) e)) (h.0 n l is_do ns v)) (h.1 n l is_do ns v)
+        go (suc j) e = λ l is_do reductions said v xs are sc body r u inner locked i2 same ran begins quiet.
+            loop_is_dead xs sc body (places_in p.statement t s i at) r u inner l locked s i2 begins begun quiet (known_of ps sss) g (scope_of g.untracked f.known) (loop_with g (phases_of f).known l) said.private seen refl ran same are
+            (subst (λ (q : Places). NamesStand (known_of ps sss) g (scope_of g.untracked f.known) (names f.known.symbols) (loop_with g (phases_of f).known l) l said.private q) (sym (ap (λ k. places_in k t s i at) e)) (h.0 n l is_do reductions said v)) (h.1 n l is_do reductions said v)
 
   loops_joined : IterationsAreBegun → Joined (AllNamesStand (known_of ps sss) g (all_marks g (outs_of ps sss g))) (AllMarksAreDead (known_of ps sss) g (all_marks g (outs_of ps sss g))) (AllMarkedLoopsAreDead (known_of ps sss) g (all_marks g (outs_of ps sss g)))
   loops_joined begun p at t s i later e h =

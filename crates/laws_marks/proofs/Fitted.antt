@@ -130,7 +130,7 @@ module _ (ps : List ParsedTree) (sss : List (List SymbolTree)) (g : Graph) (x : 
       go true e = (let same : u ≡ 0 = grind (arith, nat_tests, e) in absurd (true≢false (sym o ∙ ap (is_own_unit N) same ∙ zero_no_own)))
       go false e = refl
 
-  expression_own : (k : Known) (u : ℕ) → IsOfExpression (of k) u → is_own_unit N u ≡ true
+  pub expression_own : (k : Known) (u : ℕ) → IsOfExpression (of k) u → is_own_unit N u ≡ true
   expression_own k u e = subst (λ v. is_own_unit N v ≡ true) e.is_unit (temporaries_are_recognisable N (own k.read.name e.call e.place) 0 (has_room (known_of ps sss)))
 
   some_units : (xs : List Known) (u : ℕ) → IsOfSome (map of xs) u → (is_own_unit N u ≡ true) ⊎ IsLocalOf (map of xs) u
@@ -172,7 +172,7 @@ module _ (ps : List ParsedTree) (sss : List (List SymbolTree)) (g : Graph) (x : 
     abbrev Inactive : ℕ → Type 0
     Inactive u = IsOfExpression (of k) u ⊎ IsOfSome (map of xs) u
 
-    inactive_outside : (u : ℕ) → Inactive u → IsOutside u (of k)
+    pub inactive_outside : (u : ℕ) → Inactive u → IsOutside u (of k)
     inactive_outside u h =
         ⊎_elim (λ e. expression_off ps sss g x u (expression_own k u e) k is_in)
         (λ s. ⊎_elim (λ o. expression_off ps sss g x u o k is_in) (λ l. local_off ps sss g x k is_in xs behind distinct u l) (some_units xs u s)) h

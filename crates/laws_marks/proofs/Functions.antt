@@ -1,13 +1,12 @@
 -- The names of functions of which the iterations of a DO have the results for themselves.
-use Rattle.std.proofs.Common.{◌≡◌, ◌⊎◌, inl, inr, ℕ, zero, suc, ◌-◌, ◌&&◌, ◌||◌, Bool, true, false, List, [], ◌∷◌, map, Option, Some, None, arith, refl, sym, ap, ◌∙◌, subst, true≢false, bytes_eq}
-use Rattle.std.specs.Prelude.{if◌then◌else◌, not, slice_get, slice_index_or, unwrap_or}
+use Rattle.std.proofs.Common.{◌≡◌, ℕ, zero, suc, ◌-◌, ◌||◌, Bool, true, false, List, [], ◌∷◌, Option, Some, None, arith, refl, sym, ap, ◌∙◌, subst, true≢false, bytes_eq}
+use Rattle.std.specs.Prelude.{if◌then◌else◌, slice_get, slice_index_or, unwrap_or}
 use Rattle.std.specs.List.{list_any}
 use Rattle.std.proofs.lemmas.Slice.Eq.{bytes_eq-Decides}
 use Rattle.system_text.specs.SystemText.{name_at}
-use Rattle.f77_ast.specs.Trees.{StmtTrees, LoopTree}
-use Rattle.f77_ast.specs.Trees as tree
+use Rattle.f77_ast.specs.Trees.{LoopTree}
 use Rattle.f77_ast.specs.DeclTrees.{ModuleTree}
-use Rattle.f77_ast.specs.Places.{Meant, Variable, Function}
+use Rattle.f77_ast.specs.Places.{Variable, Function}
 use Rattle.f77_ast.specs.Symbols.{SymbolTree, number_from}
 use Rattle.f77_ast.specs.Shared.{symbol_at}
 use Rattle.f77_ast.proofs.StorageLaws.{from_number}

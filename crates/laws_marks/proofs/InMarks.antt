@@ -22,10 +22,10 @@ use Rattle.f77_names.specs.Appearing.{unless_function, name_seen, expr_seen, exp
 use Rattle.f77_names.specs.Declaring.{Told, bound_of, form_told, typed, shaped, in_common, extent_seen, extents_seen, entity_seen, typed_entity, typed_entities, shaped_entities, members_told, blocks_told, setting_told, settings_told, mention_told, item_told, items_told, groups_told, targets_told, save_told, saves_told, decl_told, decls_told}
 use Rattle.laws_programs.proofs.SymbolTables.KeptNames.{Said, with_said, Typed, Shaped, Shared, Parameter, Saved, Initial, Nothing}
 
--- anything but that it is a PARAMETER
+-- anything but that it is a PARAMETER, or that it has bounds
 abbrev pub IsMild : Said → Type 0
 IsMild (Typed s) = Unit {0}
-IsMild (Shaped line b bs) = Unit {0}
+IsMild (Shaped line b bs) = ⊥
 IsMild (Shared line) = Unit {0}
 IsMild Parameter = ⊥
 IsMild Saved = Unit {0}
@@ -52,7 +52,33 @@ abbrev pub SomeSets : List DeclTree → List ℕ → Type 0
 SomeSets [] x = ⊥
 SomeSets (d ∷ ds) x = Sets d x ⊎ SomeSets ds x
 
-module _ (P : List EntryTree → Type 0) (more : (x : List ℕ) (line : ℕ) (es : List EntryTree) → P es → P (seen x line es)) (said : (x : List ℕ) (w : Said) → IsMild w → (es : List EntryTree) → P es → P (changed x (with_said w) es)) (S : List ℕ → Type 0) (marked : (x : List ℕ) → S x → (es : List EntryTree) → P es → P (changed x as_parameter es)) (fs : List Function) where
+-- an entity has these bounds
+abbrev pub HasShape : List EntityTree → List ExtentTree → Type 0
+HasShape [] bs = ⊥
+HasShape (e ∷ es) bs = (e.bounds ≡ bs) ⊎ HasShape es bs
+
+abbrev pub HasMember : List CommonTree → List ExtentTree → Type 0
+HasMember [] bs = ⊥
+HasMember (c ∷ cs) bs = HasShape c.members bs ⊎ HasMember cs bs
+
+-- a statement gives a name these bounds
+abbrev pub Shapes : DeclTree → List ExtentTree → Type 0
+Shapes (decl.parameter ss) bs = ⊥
+Shapes (decl.implicit ps) bs = ⊥
+Shapes (decl.integer es) bs = HasShape es bs
+Shapes (decl.logical es) bs = HasShape es bs
+Shapes (decl.dimension es) bs = HasShape es bs
+Shapes (decl.common cs) bs = HasMember cs bs
+Shapes (decl.equivalence gs) bs = ⊥
+Shapes (decl.save is) bs = ⊥
+Shapes (decl.initial gs) bs = ⊥
+
+abbrev pub SomeShapes : List DeclTree → List ExtentTree → Type 0
+SomeShapes [] bs = ⊥
+SomeShapes (d ∷ ds) bs = Shapes d bs ⊎ SomeShapes ds bs
+
+module _ (P : List EntryTree → Type 0) (more : (x : List ℕ) (line : ℕ) (es : List EntryTree) → P es → P (seen x line es)) (said : (x : List ℕ) (w : Said) → IsMild w → (es : List EntryTree) → P es → P (changed x (with_said w) es)) (S : List ℕ → Type 0) (marked : (x : List ℕ) → S x → (es : List EntryTree) → P es → P (changed x as_parameter es))
+    (B : List ExtentTree → Type 0) (bounded : (x : List ℕ) (line : ℕ) (b : ExtentTree) (bs : List ExtentTree) → B (b ∷ bs) → (es : List EntryTree) → P es → P (changed x (with_said (Shaped line (bound_of b) (map bound_of bs))) es)) (fs : List Function) where
   -- ---- names that appear
 
   unless_keeps : (f : Option Function) (x : List ℕ) (line : ℕ) (es : List EntryTree) → P es → P (unless_function f x line es)
@@ -144,32 +170,34 @@ module _ (P : List EntryTree → Type 0) (more : (x : List ℕ) (line : ℕ) (es
   entity_keeps : (e : EntityTree) (line : ℕ) (t : Told) → P t.entries → P (entity_seen fs e line t).entries
   entity_keeps e line t d = extents_keep e.bounds line (seen e.name line t.entries) (more e.name line t.entries d)
 
-  shaped_keeps : (x : List ℕ) (bs : List ExtentTree) (line : ℕ) (t : Told) → P t.entries → P (shaped x bs line t).entries
-  shaped_keeps x [] line t d = d
-  shaped_keeps x (b ∷ bs) line t d = said x (Shaped line (bound_of b) (map bound_of bs)) tt t.entries d
+  shaped_keeps : (x : List ℕ) (bs : List ExtentTree) → B bs → (line : ℕ) (t : Told) → P t.entries → P (shaped x bs line t).entries
+  shaped_keeps x [] q line t d = d
+  shaped_keeps x (b ∷ bs) q line t d = bounded x line b bs q t.entries d
 
-  typed_keeps : (s : Scalar) (e : EntityTree) (line : ℕ) (t : Told) → P t.entries → P (typed_entity fs s e line t).entries
-  typed_keeps s e line t d =
+  typed_keeps : (s : Scalar) (e : EntityTree) → B e.bounds → (line : ℕ) (t : Told) → P t.entries → P (typed_entity fs s e line t).entries
+  typed_keeps s e q line t d =
       let u = entity_seen fs e line t in
-      shaped_keeps e.name e.bounds line (typed e.name s line u) (said e.name (Typed s) tt u.entries (entity_keeps e line t d))
+      shaped_keeps e.name e.bounds q line (typed e.name s line u) (said e.name (Typed s) tt u.entries (entity_keeps e line t d))
 
-  typed_all_keep : (s : Scalar) (xs : List EntityTree) (line : ℕ) (t : Told) → P t.entries → P (typed_entities fs s xs line t).entries
-  typed_all_keep s [] line t d = d
-  typed_all_keep s (e ∷ xs) line t d = typed_all_keep s xs line (typed_entity fs s e line t) (typed_keeps s e line t d)
+  typed_all_keep : (s : Scalar) (xs : List EntityTree) → ((bs : List ExtentTree) → HasShape xs bs → B bs) → (line : ℕ) (t : Told) → P t.entries → P (typed_entities fs s xs line t).entries
+  typed_all_keep s [] q line t d = d
+  typed_all_keep s (e ∷ xs) q line t d = typed_all_keep s xs (λ bs i. q bs (inr i)) line (typed_entity fs s e line t) (typed_keeps s e (q e.bounds (inl refl)) line t d)
 
-  shaped_all_keep : (xs : List EntityTree) (line : ℕ) (t : Told) → P t.entries → P (shaped_entities fs xs line t).entries
-  shaped_all_keep [] line t d = d
-  shaped_all_keep (e ∷ xs) line t d = shaped_all_keep xs line (shaped e.name e.bounds line (entity_seen fs e line t)) (shaped_keeps e.name e.bounds line (entity_seen fs e line t) (entity_keeps e line t d))
+  shaped_all_keep : (xs : List EntityTree) → ((bs : List ExtentTree) → HasShape xs bs → B bs) → (line : ℕ) (t : Told) → P t.entries → P (shaped_entities fs xs line t).entries
+  shaped_all_keep [] q line t d = d
+  shaped_all_keep (e ∷ xs) q line t d =
+      shaped_all_keep xs (λ bs i. q bs (inr i)) line (shaped e.name e.bounds line (entity_seen fs e line t)) (shaped_keeps e.name e.bounds (q e.bounds (inl refl)) line (entity_seen fs e line t) (entity_keeps e line t d))
 
-  members_keep : (xs : List EntityTree) (line : ℕ) (t : Told) → P t.entries → P (members_told fs xs line t).entries
-  members_keep [] line t d = d
-  members_keep (e ∷ xs) line t d =
+  members_keep : (xs : List EntityTree) → ((bs : List ExtentTree) → HasShape xs bs → B bs) → (line : ℕ) (t : Told) → P t.entries → P (members_told fs xs line t).entries
+  members_keep [] q line t d = d
+  members_keep (e ∷ xs) q line t d =
       let u = shaped e.name e.bounds line (entity_seen fs e line t) in
-      members_keep xs line (in_common e.name line u) (said e.name (Shared line) tt u.entries (shaped_keeps e.name e.bounds line (entity_seen fs e line t) (entity_keeps e line t d)))
+      members_keep xs (λ bs i. q bs (inr i)) line (in_common e.name line u)
+      (said e.name (Shared line) tt u.entries (shaped_keeps e.name e.bounds (q e.bounds (inl refl)) line (entity_seen fs e line t) (entity_keeps e line t d)))
 
-  blocks_keep : (cs : List CommonTree) (line : ℕ) (t : Told) → P t.entries → P (blocks_told fs cs line t).entries
-  blocks_keep [] line t d = d
-  blocks_keep (c ∷ cs) line t d = blocks_keep cs line (members_told fs c.members line t) (members_keep c.members line t d)
+  blocks_keep : (cs : List CommonTree) → ((bs : List ExtentTree) → HasMember cs bs → B bs) → (line : ℕ) (t : Told) → P t.entries → P (blocks_told fs cs line t).entries
+  blocks_keep [] q line t d = d
+  blocks_keep (c ∷ cs) q line t d = blocks_keep cs (λ bs i. q bs (inr i)) line (members_told fs c.members line t) (members_keep c.members (λ bs i. q bs (inl i)) line t d)
 
   settings_keep : (ss : List SettingTree) → ((x : List ℕ) → IsSet ss x → S x) → (line : ℕ) (t : Told) → P t.entries → P (settings_told fs ss line t).entries
   settings_keep [] f line t d = d
@@ -209,17 +237,18 @@ module _ (P : List EntryTree → Type 0) (more : (x : List ℕ) (line : ℕ) (es
   saves_keep [] line t d = d
   saves_keep (i ∷ is) line t d = saves_keep is line (save_told i line t) (save_keeps i line t d)
 
-  decl_keeps : (d : DeclTree) → ((x : List ℕ) → Sets d x → S x) → (line : ℕ) (t : Told) → P t.entries → P (decl_told fs d line t).entries
-  decl_keeps (decl.implicit ps) f line t d = d
-  decl_keeps (decl.integer es) f line t d = typed_all_keep Int es line t d
-  decl_keeps (decl.logical es) f line t d = typed_all_keep Log es line t d
-  decl_keeps (decl.dimension es) f line t d = shaped_all_keep es line t d
-  decl_keeps (decl.parameter ss) f line t d = settings_keep ss f line t d
-  decl_keeps (decl.common cs) f line t d = blocks_keep cs line t d
-  decl_keeps (decl.equivalence gs) f line t d = groups_keep gs line t d
-  decl_keeps (decl.save is) f line t d = saves_keep is line t d
-  decl_keeps (decl.initial gs) f line t d = targets_keep gs line t d
+  decl_keeps : (d : DeclTree) → ((x : List ℕ) → Sets d x → S x) → ((bs : List ExtentTree) → Shapes d bs → B bs) → (line : ℕ) (t : Told) → P t.entries → P (decl_told fs d line t).entries
+  decl_keeps (decl.implicit ps) f q line t d = d
+  decl_keeps (decl.integer es) f q line t d = typed_all_keep Int es q line t d
+  decl_keeps (decl.logical es) f q line t d = typed_all_keep Log es q line t d
+  decl_keeps (decl.dimension es) f q line t d = shaped_all_keep es q line t d
+  decl_keeps (decl.parameter ss) f q line t d = settings_keep ss f line t d
+  decl_keeps (decl.common cs) f q line t d = blocks_keep cs q line t d
+  decl_keeps (decl.equivalence gs) f q line t d = groups_keep gs line t d
+  decl_keeps (decl.save is) f q line t d = saves_keep is line t d
+  decl_keeps (decl.initial gs) f q line t d = targets_keep gs line t d
 
-  pub decls_keep : (at : LineTable) (xs : List DeclTree) → ((x : List ℕ) → SomeSets xs x → S x) → (n : ℕ) (t : Told) → P t.entries → P (decls_told fs at xs n t).entries
-  decls_keep at [] f n t d = d
-  decls_keep at (x ∷ xs) f n t d = decls_keep at xs (λ y i. f y (inr i)) (suc n) (decl_told fs x (line_or at (Decl n) 0) t) (decl_keeps x (λ y i. f y (inl i)) (line_or at (Decl n) 0) t d)
+  pub decls_keep : (at : LineTable) (xs : List DeclTree) → ((x : List ℕ) → SomeSets xs x → S x) → ((bs : List ExtentTree) → SomeShapes xs bs → B bs) → (n : ℕ) (t : Told) → P t.entries → P (decls_told fs at xs n t).entries
+  decls_keep at [] f q n t d = d
+  decls_keep at (x ∷ xs) f q n t d =
+      decls_keep at xs (λ y i. f y (inr i)) (λ bs i. q bs (inr i)) (suc n) (decl_told fs x (line_or at (Decl n) 0) t) (decl_keeps x (λ y i. f y (inl i)) (λ bs i. q bs (inl i)) (line_or at (Decl n) 0) t d)

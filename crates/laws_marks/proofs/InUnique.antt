@@ -45,7 +45,7 @@ by_key (Saved s x) (Own n) = refl
 by_key (Saved s x) (Block c) = refl
 by_key (Saved s x) (Saved t y) = refl
 
-variable_total : IsTotalOrder variable_cmp
+pub variable_total : IsTotalOrder variable_cmp
 variable_total = subst (λ (R : Variable → Variable → Ordering). IsTotalOrder R) (λ i v w. by_key v w i) (on_total key nat_list_cmp_total)
 
 region_total : IsTotalOrder region_cmp
@@ -54,7 +54,7 @@ region_total = then_total (on_total (λ (r : Region). access_number r.kind) nat_
 pub itself : (v : Variable) → variable_cmp v v ≡ Equal
 itself v = tied_itself variable_total v
 
-reversed : (o : Ordering) → Greater ≡ ordering_reverse o → o ≡ Less
+pub reversed : (o : Ordering) → Greater ≡ ordering_reverse o → o ≡ Less
 reversed Less e = refl
 reversed Equal e = cc
 reversed Greater e = cc

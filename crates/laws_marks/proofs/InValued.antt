@@ -1,8 +1,8 @@
 -- In a module that is not refused each PARAMETER has a value (ANSI X3.9-1978 §8.6).
-use Rattle.std.proofs.Common.{◌≡◌, ◌⊎◌, inl, inr, ⊎_elim, ℕ, zero, suc, ◌+◌, ◌-◌, ◌≤◌, Bool, true, false, List, [], ◌∷◌, ◌++◌, Option, Some, None, arith, refl, sym, ap, ◌∙◌, subst, true≢false}
+use Rattle.std.proofs.Common.{◌≡◌, ◌⊎◌, inl, inr, ⊎_elim, ℕ, zero, suc, ◌+◌, ◌-◌, ◌≤◌, Bool, true, false, List, [], ◌∷◌, ◌++◌, map, Option, Some, None, arith, refl, sym, ap, ◌∙◌, subst, true≢false}
 use Rattle.std.specs.Prelude.{if◌then◌else◌, bytes_eq, is_some, slice_get, ◌||◌}
 use Rattle.std.proofs.lemmas.Slice.Eq.{bytes_eq-Decides}
-use Rattle.f77_ast.specs.DeclTrees.{SettingTree, DeclTree, ModuleTree, ParsedTree}
+use Rattle.f77_ast.specs.DeclTrees.{ExtentTree, SettingTree, DeclTree, ModuleTree, ParsedTree}
 use Rattle.f77_ast.specs.DeclTrees as decl
 use Rattle.f77_ast.specs.declared.constant.Constant.{Constant}
 use Rattle.f77_ast.specs.declared.constant.Constant.TheVariants as constant
@@ -21,7 +21,7 @@ use Rattle.f77_names.specs.Lines.{LineTable, line_or}
 use Rattle.f77_names.specs.Functions.{arrays_named}
 use Rattle.f77_names.specs.Kinds.{kinds_of, kind_of_name}
 use Rattle.f77_names.specs.Entries.{EntryTree, fresh, find, entry_names, seen, changed, with_dummy, with_value, as_parameter, of_entry, value_among}
-use Rattle.f77_names.specs.Declaring.{Told, dummy_told, dummies_told, decls_told}
+use Rattle.f77_names.specs.Declaring.{Told, bound_of, dummy_told, dummies_told, decls_told}
 use Rattle.f77_names.specs.Tables.{NameTable, no_names, title_told, entry_kind, is_real, kind_in, in_common_too, check_entry, check_entries, told_of, table_of, check_names}
 use Rattle.f77_checks.specs.Parameters.{Valued, is_bad_parameter, given_typed, given_const_value, setting_valued, settings_valued, decl_valued, decls_valued}
 use Rattle.storage_layout.specs.Symbols.{valued}
@@ -80,7 +80,7 @@ found_at k (d ∷ es) x j e n s = go (bytes_eq x d.name) n (λ i q. found_at (su
 
 same_mark : (w : Said) → IsMild w → (e : EntryTree) → (with_said w e).parameter ≡ e.parameter
 same_mark (Typed s) q e = refl
-same_mark (Shaped line b bs) q e = refl
+same_mark (Shaped line b bs) q e = absurd q
 same_mark (Shared line) q e = refl
 same_mark Parameter q e = absurd q
 same_mark Saved q e = refl
@@ -125,8 +125,12 @@ module _ (S : List ℕ → Type 0) where
       let fs = arrays_named m.decls in
       let t = dummies_told m.dummies 1 (line_or at Title 0) no_names in
       let u = title_told at m in
-      stmts_keep Marked seen_marked said_marked S set_marked fs at m.body 0 (decls_told fs at m.decls 0 u).entries
-      (decls_keep Marked seen_marked said_marked S set_marked fs at m.decls f 0 u (form_keeps Marked seen_marked said_marked S set_marked fs m.function m.name (line_or at Title 0) t (dummies_marked m.dummies 1 (line_or at Title 0) no_names none_marked)))
+      stmts_keep Marked seen_marked said_marked S set_marked (λ bs. Unit {0}) bounded fs at m.body 0 (decls_told fs at m.decls 0 u).entries
+      (decls_keep Marked seen_marked said_marked S set_marked (λ bs. Unit {0}) bounded fs at m.decls f (λ bs i. tt) 0 u
+      (form_keeps Marked seen_marked said_marked S set_marked (λ bs. Unit {0}) bounded fs m.function m.name (line_or at Title 0) t (dummies_marked m.dummies 1 (line_or at Title 0) no_names none_marked)))
+    where
+      bounded : (x : List ℕ) (line : ℕ) (b : ExtentTree) (bs : List ExtentTree) → Unit {0} → (es : List EntryTree) → Marked es → Marked (changed x (with_said (Shaped line (bound_of b) (map bound_of bs))) es)
+      bounded x line b bs q es h = mild_marked x (with_said (Shaped line (bound_of b) (map bound_of bs))) (λ e. refl) (λ e. refl) es h
 
 -- ---- no name is REAL
 

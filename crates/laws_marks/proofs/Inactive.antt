@@ -92,7 +92,7 @@ at_end_all (Gave a) s i P h = h
 at_end_all (Broke b) s i P h = tt
 
 module _ {W : Type 0} (D : W → Execution → Type 0) where
-  at_once : (t : Plan) (s : Store) (i : List Content) → ((w : W) → AtEachExecution (D w) t s i) → AtEachExecution (λ x. (w : W) → D w x) t s i
+  pub at_once : (t : Plan) (s : Store) (i : List Content) → ((w : W) → AtEachExecution (D w) t s i) → AtEachExecution (λ x. (w : W) → D w x) t s i
   at_once (plan.Ends f) s i h = tt
   at_once (plan.Breaks b) s i h = tt
   at_once (plan.Look u k) s i h = at_once (k (s u)) s i h

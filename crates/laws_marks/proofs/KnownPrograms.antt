@@ -1,5 +1,5 @@
 -- Programs that are read: what is known of their marked loops in a run that comes to an end.
-use Rattle.std.proofs.Common.{◌≡◌, ℕ, ℤ, zero, suc, List, [], ◌∷◌, ◌++◌, Option, Some, arith, true, false, append_assoc, append-nil, refl, sym, ap, ◌∙◌, subst}
+use Rattle.std.proofs.Common.{◌≡◌, ℕ, ℤ, zero, suc, Bool, List, [], ◌∷◌, ◌++◌, Some, arith, true, false, append_assoc, append-nil, refl, sym, ap, ◌∙◌, subst}
 use Rattle.std.specs.Prelude.{map, reverse, slice_get}
 use mathlib.Core.List.{map-append}
 use Rattle.f77_ast.specs.Trees.{LoopTree, StmtTrees, WhatTree}
@@ -22,13 +22,10 @@ use Rattle.f77_ast.specs.declared.results.Results.{Results}
 use Rattle.call_graph.specs.declared.graph.Graph.{Graph}
 use Rattle.in_out_regions.specs.effects.List.{Callees}
 use Rattle.in_out_regions.specs.effects.Modules.{cumulated_of}
-use Rattle.f77_meaning.specs.Modules.{Known, known_of, names, symbol_names}
+use Rattle.f77_meaning.specs.Modules.{Known, known_of, names}
 use Rattle.f77_meaning.specs.Linked.{program_of}
 use Rattle.affine_forms.specs.Claims.{unit_in}
 use Rattle.preconditions.specs.transformer_algebra.Laws.{In}
-use Rattle.preconditions.specs.transformers.Lists.{value_at}
-use Rattle.f77_ast.specs.declared.marks.Mark.{Mark}
-use Rattle.f77_ast.specs.declared.marks.Mark.TheVariants.{Parallel}
 use Rattle.loop_marker.specs.module_phases.ScalarPhases.{scope_of, analyses}
 use Rattle.loop_marker.specs.module_phases.RegionPhases.{all_regions}
 use Rattle.loop_marker.specs.module_phases.InPhases.{ModuleIns, all_ins}
@@ -36,8 +33,6 @@ use Rattle.loop_marker.specs.module_phases.OutPhases.{ModuleOuts, with_outs, sit
 use Rattle.loop_marker.specs.Results.{ModuleResults}
 use Rattle.loop_marker.specs.Phases.{phases_of, no_callees, with_callee, with_marks, found_in, all_marks}
 use Rattle.loop_marker.specs.dependence_test.Finding.{loop_in}
-use Rattle.loop_marker.specs.Known.{knowledge_of}
-use Rattle.loop_marker.specs.Marks.{Knowledge, mark_of}
 use Rattle.loop_marker.specs.Jumps.{body_of}
 use Rattle.loop_marker.specs.out_regions.Leaving.{leaves}
 use Rattle.loop_marker.specs.privatizer.Names.{may_copy}
@@ -52,33 +47,34 @@ use Rattle.laws_programs.proofs.Whole.{bodies_numbered}
 use Rattle.call_graph.specs.CallsIn.{Each}
 use Rattle.laws_programs.specs.roundtrip_programs.Statements.Formed.{Each as EachOf}
 use Rattle.laws_analyses.proofs.UnitLaws.{module_at}
-use Rattle.laws_analyses.proofs.Regions.Programs.{distinct_numbers}
 use Rattle.laws_analyses.specs.Regions.Settings.{elements_with}
 use Rattle.laws_marks.specs.ConflictAccepted.{AllLoopsHold, ReadLoopsHold}
 use Rattle.laws_marks.specs.ConflictClaims.{LoopIs, LoopsHold, body_list, loop_with}
 use Rattle.laws_marks.specs.ConflictExecutions.{Execution, InEachExecution}
 use Rattle.laws_marks.specs.ConflictIterations.{Iteration, iterations}
-use Rattle.laws_marks.proofs.ConflictWhats.{list_whats, as_loop, each_found}
+use Rattle.laws_marks.proofs.ConflictWhats.{list_whats}
 use Rattle.laws_interleavings.specs.MarkedStatements.{MarkedScope, marked_loop}
-use Rattle.laws_marks.specs.MarkedFit.{HasPrivateUnits}
+use Rattle.result_lines.specs.declared.reduction.Part.{Part}
+use Rattle.result_lines.specs.declared.reduction.Reduction.{Reduction}
+use Rattle.laws_marks.specs.Said.{knowledge, said_at}
+use Rattle.laws_marks.specs.MarkedFit.{HasOwnUnits, HasPrivateUnits}
 use Rattle.laws_marks.specs.MarkedBegins.{Begins}
 use Rattle.laws_marks.specs.MarkedEnding.{IsQuietDo}
 use Rattle.laws_marks.proofs.MarkedEnding.{ends_quietly, loop_is_quiet}
 use Rattle.laws_marks.specs.Dead.{index_name}
 use Rattle.laws_marks.specs.Units.{ModuleUnitsStand, index_in}
 use Rattle.laws_marks.specs.DeadLaws.{outs_of, AllUnitsStand, ReadUnitsStand}
-use Rattle.laws_marks.proofs.Marks.{list_marks, found_at}
 use Rattle.laws_marks.proofs.Own.{passing}
-use Rattle.laws_marks.specs.Verdicts.{SaysParallel}
+use Rattle.laws_marks.specs.Verdicts.{Says}
 use Rattle.laws_marks.specs.Known.{Finishes, LoopIsKnown, MarkedLoopIsKnown, AllMarkedLoopsAreKnown, ReadMarkedLoopsAreKnown}
-use Rattle.laws_marks.proofs.DoEffects.{DoIs}
+use Rattle.laws_marks.proofs.DoEffects.{DoIs, list_dos}
 use Rattle.laws_marks.proofs.Effects.{GivenAt, IsCalm, DoIsCalm, dos_calm}
 use Rattle.laws_marks.proofs.Inside.{LeadsBeyond, AllLeadBeyond, one_leads}
 use Rattle.laws_marks.proofs.Private.{verdict}
 use Rattle.laws_marks.proofs.Quiet.{is_quiet}
 use Rattle.laws_marks.proofs.KnownRuns.{occurrence_of, at_each}
 use Rattle.laws_marks.proofs.EffectTables.{IsMade, marks_made}
-use Rattle.laws_marks.proofs.Verdicts.{says_parallel}
+use Rattle.laws_marks.proofs.Marked.{said_with}
 use Rattle.laws_analyses.proofs.Passes.{each_reversed as each_reverse}
 use Rattle.laws_marks.proofs.Modules.{each_two}
 use Rattle.laws_analyses.proofs.Claimed.{all_of_each}
@@ -90,58 +86,36 @@ each_back : {A B : Type 0} (f : A → B) (P : B → Type 0) (xs : List A) → Ea
 each_back f P [] h = tt
 each_back f P (x ∷ xs) h = (h.0, each_back f P xs h.1)
 
--- ---- the mark of a DO, found by its number
+-- ---- a DO that is found by its number
 
--- what is known of a module where its marks are made
-abbrev knowledge : Graph → ModuleResults → Knowledge
-knowledge g f =
-    let k = f.known in
-    let a = (phases_of f).known.known.analysis in
-    knowledge_of k.read k.symbols (symbol_names k.symbols) (scope_of g.untracked k) f.effects.at a.found.own.at a.holds.at f.regions.at f.ins.at f.outs.at
-
--- of a DO that is parallel with these variables
-record IsFound (g : Graph) (f : ModuleResults) (n : ℕ) (l : LoopTree) (ns : List ℕ) : Type 0 where
-  says : SaysParallel (knowledge g f) n l ns
+-- of which this is said
+record IsFound (g : Graph) (f : ModuleResults) (n : ℕ) (l : LoopTree) (r : Reduction) : Type 0 where
+  says : Says (knowledge g f) n l r
   calm : IsCalm f.effects.at n
   beyond : LeadsBeyond n l
 
 module _ (ks : List Known) (g : Graph) (xs : List (List ℕ)) (f : ModuleResults) (made : IsMade g ks xs no_callees f) (numbered : HasNumbers f.known.read.body) (all_beyond : AllLeadBeyond f.known.read.body) where
-  record MarkOf (a : At Mark) : Type 0 where
-    label : Option ℕ
-    loop : LoopTree
-    found : loop_in a.id f.known.read.body ≡ Some loop
-    value : a.value ≡ mark_of (knowledge g f) a.id label loop
-    calm : DoIsCalm f.effects.at a.id loop
-    beyond : LeadsBeyond a.id loop
-
-  abbrev Told : At WhatTree → Type 0
-  Told a = (loop_in a.id f.known.read.body ≡ as_loop a.value) × DoIs (DoIsCalm f.effects.at) a × DoIs LeadsBeyond a
-
   all_calm : Each (DoIs (DoIsCalm f.effects.at)) (list_whats f.known.read.body)
   all_calm =
       subst (λ (r : Results EffectSet). Each (DoIs (DoIsCalm r.at)) (list_whats f.known.read.body)) (sym made.effects)
       (dos_calm (before ks xs no_callees f.known.read.name) f.known.symbols f.known.read.body numbered)
 
-  all_told : Each Told (list_whats f.known.read.body)
+  -- of each DO
+  abbrev Told : ℕ → LoopTree → Type 0
+  Told n l = DoIsCalm f.effects.at n l × LeadsBeyond n l
+
+  abbrev ToldOf : At WhatTree → Type 0
+  ToldOf a = DoIs (DoIsCalm f.effects.at) a × DoIs LeadsBeyond a
+
+  all_told : Each (DoIs Told) (list_whats f.known.read.body)
   all_told =
       let body = f.known.read.body in
-      each_two (λ a. loop_in a.id body ≡ as_loop a.value) (λ a. DoIs (DoIsCalm f.effects.at) a × DoIs LeadsBeyond a) Told (λ a p q. (p, q.0, q.1)) (list_whats body) (each_found body (distinct_numbers body numbered))
-      (each_two (DoIs (DoIsCalm f.effects.at)) (DoIs LeadsBeyond) (λ a. DoIs (DoIsCalm f.effects.at) a × DoIs LeadsBeyond a) (λ a p q. (p, q)) (list_whats body) all_calm all_beyond)
+      list_dos ToldOf Told (λ n l p h. p) body (each_two (DoIs (DoIsCalm f.effects.at)) (DoIs LeadsBeyond) ToldOf (λ a p q. (p, q)) (list_whats body) all_calm all_beyond)
 
-  each_mark : Each MarkOf f.marks
-  each_mark =
-      subst (Each MarkOf) (sym made.marks)
-      (list_marks (mark_of (knowledge g f)) Told MarkOf (λ n label l p. record { label = label; loop = l; found = p.0; value = refl; calm = p.1; beyond = p.2 }) f.known.read.body all_told)
-
-  is_found : (n : ℕ) (l : LoopTree) → loop_in n f.known.read.body ≡ Some l → (ns : List ℕ) → value_at f.marks n ≡ Some (Parallel ns) → IsFound g f n l ns
-  is_found n l is_do ns v =
-      let q = found_at MarkOf n (Parallel ns) f.marks each_mark v in
-      let o = q.is_so in
-      let says : SaysParallel (knowledge g f) q.item.id o.loop ns = says_parallel (knowledge g f) q.item.id o.label o.loop ns (sym o.value ∙ q.value) in
-      let here : IsFound g f q.item.id o.loop ns = record { says = says; calm = o.calm says.no_stop says.no_io; beyond = o.beyond } in
-      let same : Some o.loop ≡ Some l = sym o.found ∙ (ap (λ i. loop_in i f.known.read.body) q.number ∙ is_do) in
-      let one : o.loop ≡ l = cc in
-      subst (λ z. IsFound g f n z ns) one (subst (λ i. IsFound g f i o.loop ns) q.number here)
+  is_found : (n : ℕ) (l : LoopTree) → loop_in n f.known.read.body ≡ Some l → (reductions : Bool) (r : Reduction) → said_at g reductions f n ≡ Some r → IsFound g f n l r
+  is_found n l is_do reductions r e =
+      let q = said_with g f numbered made.marks Told all_told n l is_do reductions r e in
+      record { says = q.0; calm = q.1.0 q.0.no_stop q.0.no_io; beyond = q.1.1 }
 
 -- ---- an execution of a DO
 
@@ -160,7 +134,7 @@ gave_some (Gave f) h = record { flow = f; gave = refl }
 gave_some (Broke b) h = absurd h
 
 module _ (ks : List Known) (g : Graph) (f : ModuleResults) (x : Execution) (later : List Event) (ended : Finishes (run_of x.does x.start x.input).answer) (loops : LoopsHold ks g (phases_of f).known x) (units : ModuleUnitsStand ks g (phases_of f).known x)
-    (l : LoopTree) (is_do : loop_in x.spot.statement f.known.read.body ≡ Some l) (ns : List ℕ) (found : IsFound g f x.spot.statement l ns) (holds : EffectsHold ks g found.calm.effect (occurrence_of x later))
+    (l : LoopTree) (is_do : loop_in x.spot.statement f.known.read.body ≡ Some l) (said : Reduction) (found : IsFound g f x.spot.statement l said) (holds : EffectsHold ks g found.calm.effect (occurrence_of x later))
     (sc : MarkedScope) (locked : Locks) (same : sc.plain.names ≡ names f.known.symbols) (does : x.does ≡ do_plan l sc.plain x.places locked) where
   known : LoopIs ks g (scope_of g.untracked f.known) x.places (loop_with g (phases_of f).known l) x.start (iterations (do_plan l sc.plain x.places locked) x.start x.input)
   known = subst (λ (t : Plan). LoopIs ks g (scope_of g.untracked f.known) x.places (loop_with g (phases_of f).known l) x.start (iterations t x.start x.input)) does (loops l is_do)
@@ -182,17 +156,19 @@ module _ (ks : List Known) (g : Graph) (f : ModuleResults) (x : Execution) (late
       let may : may_copy k.read k.symbols (Own v) ≡ true = subst (λ i. may_copy k.read k.symbols (Own i) ≡ true) number found.says.index in
       ap (λ i. elements_with ks g k.symbols x.places (Own i) phi) number ∙ stand.index v named (passing k.read k.symbols v may) phi
 
-  loop_known : (xs : List (List ℕ)) (body : StmtTrees) (r : Range) (u : ℕ) (inner : Locks) → ((n : ℕ) → In n ns → HasPrivateUnits ks g (scope_of g.untracked f.known) x.places (marked_loop xs sc body x.places r u inner) x.start (Own n)) →
+  loop_known : (xs : List (List ℕ)) (body : StmtTrees) (r : Range) (u : ℕ) (inner : Locks) (own : ℕ → Bool) → ((y : ℕ) → (marked_loop xs sc body x.places r u inner).private y ≡ true → own y ≡ true) →
+      ((n : ℕ) → In n said.private → HasPrivateUnits ks g (scope_of g.untracked f.known) x.places (marked_loop xs sc body x.places r u inner) x.start (Own n)) →
+      ((p : Part) → In p said.parts → HasOwnUnits ks g (scope_of g.untracked f.known) x.places own (marked_loop xs sc body x.places r u inner) x.start (Own p.cell)) →
       Begins sc.plain (index_name l) l x.places locked (marked_loop xs sc body x.places r u inner) x.start x.input →
-      LoopIsKnown ks g (scope_of g.untracked f.known) x.places (loop_with g (phases_of f).known l) (marked_loop xs sc body x.places r u inner) x.start x.input
-  loop_known xs body r u inner own b =
+      LoopIsKnown ks g (scope_of g.untracked f.known) x.places (loop_with g (phases_of f).known l) own (marked_loop xs sc body x.places r u inner) x.start x.input
+  loop_known xs body r u inner own wider private parts b =
       let m = marked_loop xs sc body x.places r u inner in
       let d = loop_with g (phases_of f).known l in
       let one : (phi : ℕ → ℤ) → elements_with ks g f.known.symbols x.places (Own d.body.index) phi ≡ Some u = λ phi. scalar b.symbol b.is_symbol phi ∙ ap Some (sym b.unit) in
       record {
         ends = ends_quietly m x.start x.input (loop_is_quiet sc.plain (index_name l) l x.places locked m x.start x.input b quiet);
         known = subst (λ (zs : List Iteration). LoopIs ks g (scope_of g.untracked f.known) x.places d x.start zs) b.cut known;
-        verdicts = λ q i w. verdict ks g (scope_of g.untracked f.known) x.places d xs sc body r u inner x.start one f.known.read ns own q.variable (found.says.verdicts q i w);
+        verdicts = λ q i w. verdict ks g (scope_of g.untracked f.known) x.places d xs sc body r u inner x.start one f.known.read said own wider private parts q.variable (found.says.verdicts q i w);
       }
 
 -- ---- programs
@@ -270,9 +246,9 @@ module _ (ps : List ParsedTree) (sss : List (List SymbolTree)) (g : Graph) (x : 
         (h.place, ap (λ (r : Results EffectSet). slice_get r.at h.place) (sym st.made.effects) ∙ h.given))
 
     one : (f : ModuleResults) → Stands f → LoopsOf (phases_of f).known × UnitsOf (phases_of f) → KnownOf f
-    one f st h q ended l is_do ns v xs sc body r u inner locked same does own begins =
-        let found = is_found (known_of ps sss) g g.order f st.made st.numbered st.beyond y.spot.statement l is_do ns v in
-        loop_known (known_of ps sss) g f y later ended (h.0 q) (h.1 q) l is_do ns found (given_effect f st q y.spot.statement refl found.calm.effect found.calm.at) sc locked same does xs body r u inner own begins
+    one f st h q ended l is_do reductions said v xs sc body r u inner locked same does own wider private parts begins =
+        let found = is_found (known_of ps sss) g g.order f st.made st.numbered st.beyond y.spot.statement l is_do reductions said v in
+        loop_known (known_of ps sss) g f y later ended (h.0 q) (h.1 q) l is_do said found (given_effect f st q y.spot.statement refl found.calm.effect found.calm.at) sc locked same does xs body r u inner own wider private parts begins
 
     all_known : AllMarkedLoopsAreKnown (known_of ps sss) g (all_marks g (outs_of ps sss g)) y
     all_known =

@@ -17,13 +17,14 @@ use Rattle.f77_ast.specs.Plans.{Plan, first}
 use Rattle.f77_ast.specs.Executions.{run_of}
 use Rattle.f77_ast.specs.Loops.{Range, range, step_value, range_of, iteration_count, iterations_from}
 use Rattle.f77_ast.specs.Statements.{body_plan, do_plan}
-use Rattle.f77_meaning.specs.Processes.{Marked}
 use Rattle.laws_interleavings.specs.Marks.{MarkedPlan}
-use Rattle.laws_interleavings.specs.Holds.{LoopHolds, MarksHold}
-use Rattle.laws_interleavings.specs.Accumulating.{private_alone}
-use Rattle.laws_interleavings.specs.MarkedStatements.{MarkedScope, steps_first, marked_loop, begun_if, loop_with}
+use Rattle.laws_interleavings.specs.Holds.{MarksHold}
+use Rattle.laws_interleavings.specs.Reductions.{Reduced}
+use Rattle.laws_interleavings.specs.Accumulating.{Reduction, Directive}
+use Rattle.laws_interleavings.specs.MarkedStatements.{MarkedScope, steps_first, reduced_loop, begun_by, loop_with}
 use Rattle.laws_marks.specs.ConflictIterations.{iterations}
 use Rattle.laws_marks.specs.MarkedBegins.{behind, Begins}
+use Rattle.laws_marks.specs.MarkedLaws.{DirectedHolds}
 
 -- ---- what only looks at units
 
@@ -129,34 +130,43 @@ marks_first (steps.Arrive p t) f g s i later h next = absurd h
 
 -- ---- a DO
 
-module _ (xs : List (List ℕ)) (sc : MarkedScope) (variable : List ℕ) (e1 e2 : ExprTree) (e3 : Option ExprTree) (body : StmtTrees) (at : Places) (locked : Locks) (s : Store) (i : List Content) (later : List Event) where
+module _ (e : Directive) (sc : MarkedScope) (variable : List ℕ) (e1 e2 : ExprTree) (e3 : Option ExprTree) (body : StmtTrees) (at : Places) (locked : Locks) (s : Store) (i : List Content) (later : List Event) where
   abbrev l : LoopTree
   l = tree.loop variable e1 e2 e3 body
 
-  abbrev marked : Range → ℕ → Marked
-  marked r u = marked_loop xs sc body at r u (lock locked u Locked)
+  abbrev reduced : Range → ℕ → Reduced
+  reduced r u = reduced_loop e sc body at r u (lock locked u Locked)
 
   -- the loop, where its variable was given its first number
   abbrev looped : Range → ℕ → Plan
   looped r u = iterations_from (iteration_count r.from r.last r.step) r.from r.step u (body_plan body sc.plain at (lock locked u Locked))
 
-  module _ (next : (r : Range) (u : ℕ) → Begins sc.plain variable l at locked (marked r u) s i → LoopHolds (marked r u) s later) (r : Range) (es : List Event) where
+  -- by its REDUCTION clauses
+  begun_holds : (rs : List Reduction) (d : Reduced) → DirectedHolds rs d s later → MarksHold (begun_by rs None d) s i later
+  begun_holds [] d h = (h, tt)
+  begun_holds (r ∷ rs) d h = (h, tt)
+
+  none_begun : (rs : List Reduction) (f : Fault) (d : Reduced) → MarksHold (begun_by rs (Some f) d) s i later
+  none_begun [] f d = tt
+  none_begun (r ∷ rs) f d = tt
+
+  module _ (next : (r : Range) (u : ℕ) → Begins sc.plain variable l at locked (reduced r u).loop s i → DirectedHolds e.reductions (reduced r u) s later) (r : Range) (es : List Event) where
     unless_locked : (v u : ℕ) → u ≡ (at v).first → sc.plain.names variable ≡ Variable v → (o : Option Fault) → locked u ≡ o →
         iterations (do_plan l sc.plain at locked) s i ≡ iterations (first (written o u (content Int r.from)) (λ o. looped r u)) s i → run_of (do_plan l sc.plain at locked) s i ≡ behind es (run_of (first (written o u (content Int r.from)) (λ o. looped r u)) s i) →
-        MarksHold (begun_if o (marked r u)) s i later
-    unless_locked v u e n None free c q = (next r u (record { symbol = v; is_symbol = n; unit = e; unlocked = free; cut = c; looks = es; run = q }), tt)
-    unless_locked v u e n (Some f) free c q = tt
+        MarksHold (begun_by e.reductions o (reduced r u)) s i later
+    unless_locked v u f n None free c q = begun_holds e.reductions (reduced r u) (next r u (record { symbol = v; is_symbol = n; unit = f; unlocked = free; cut = c; looks = es; run = q }))
+    unless_locked v u f n (Some g) free c q = none_begun e.reductions g (reduced r u)
 
     for_variable : (w : Meant) → sc.plain.names variable ≡ w →
         iterations (do_plan l sc.plain at locked) s i ≡ iterations (first (name_target w at) (λ t. first (write locked t.unit (content Int r.from)) (λ o. looped r t.unit))) s i →
         run_of (do_plan l sc.plain at locked) s i ≡ behind es (run_of (first (name_target w at) (λ t. first (write locked t.unit (content Int r.from)) (λ o. looped r t.unit))) s i) →
-        MarksHold (steps_first (name_target w at) (λ t. begun_if (locked t.unit) (marked r t.unit))) s i later
+        MarksHold (steps_first (name_target w at) (λ t. begun_by e.reductions (locked t.unit) (reduced r t.unit))) s i later
     for_variable (Constant z) n c q = tt
     for_variable (Variable v) n c q = unless_locked v (at v).first refl n (locked (at v).first) refl c q
     for_variable Function n c q = tt
 
-  pub loops_begin : ((r : Range) (u : ℕ) → Begins sc.plain variable l at locked (marked r u) s i → LoopHolds (marked r u) s later) → MarksHold (loop_with (Some (private_alone xs)) l sc at locked) s i later
+  pub loops_begin : ((r : Range) (u : ℕ) → Begins sc.plain variable l at locked (reduced r u).loop s i → DirectedHolds e.reductions (reduced r u) s later) → MarksHold (loop_with (Some e) l sc at locked) s i later
   loops_begin next =
       marks_first (range_of e1 e2 e3 sc.plain.names at) (λ r. first (name_target (sc.plain.names variable) at) (λ t. first (write locked t.unit (content Int r.from)) (λ o. looped r t.unit)))
-      (λ r. steps_first (name_target (sc.plain.names variable) at) (λ t. begun_if (locked t.unit) (marked r t.unit))) s i later (range_of_looks e1 e2 e3 sc.plain.names at)
+      (λ r. steps_first (name_target (sc.plain.names variable) at) (λ t. begun_by e.reductions (locked t.unit) (reduced r t.unit))) s i later (range_of_looks e1 e2 e3 sc.plain.names at)
       (λ r es c q. for_variable next r es (sc.plain.names variable) refl c q)

@@ -1,5 +1,5 @@
 -- Programs that are read: the variables of marked loops are dead.
-use Rattle.std.proofs.Common.{◌≡◌, ℕ, pos, zero, suc, true, false, List, [], ◌∷◌, Some, refl, sym, ap, ◌∙◌, subst}
+use Rattle.std.proofs.Common.{◌≡◌, ℕ, pos, zero, suc, Bool, true, false, List, [], ◌∷◌, Some, refl, sym, ap, ◌∙◌, subst}
 use Rattle.f77_ast.specs.Trees.{LoopTree}
 use Rattle.f77_ast.specs.DeclTrees.{ParsedTree}
 use Rattle.f77_ast.specs.Store.{Content, Store}
@@ -18,8 +18,6 @@ use Rattle.f77_meaning.specs.Occurrences.{Occurrence, Throughout, places_in}
 use Rattle.f77_meaning.specs.Accesses.{is_read_first}
 use Rattle.f77_meaning.specs.Claims.{writes}
 use Rattle.affine_forms.specs.Claims.{unit_in}
-use Rattle.preconditions.specs.transformers.Lists.{value_at}
-use Rattle.f77_ast.specs.declared.marks.Mark.TheVariants.{Parallel}
 use Rattle.loop_marker.specs.module_phases.OutPhases.{ModuleOuts}
 use Rattle.loop_marker.specs.Results.{ModuleResults}
 use Rattle.loop_marker.specs.Phases.{phases_of, all_marks}
@@ -39,8 +37,11 @@ use Rattle.laws_marks.specs.Dead.{uses_in, CopiesLieInOwn, PrivatesAreDead, Mark
 use Rattle.laws_marks.specs.Units.{ModuleUnitsStand}
 use Rattle.laws_marks.specs.DeadLaws.{outs_of, AllUnitsStand, AllCopiesLieInOwn, AllPrivatesAreDead, AllMarksAreDead, ReadUnitsStand, ReadCopiesLieInOwn, ReadPrivatesAreDead}
 use Rattle.laws_marks.proofs.Dead.{dead_if}
-use Rattle.laws_marks.proofs.Marked.{knowledge, index_same, says}
-use Rattle.laws_marks.proofs.Marks.{Says, none_of_it}
+use Rattle.laws_marks.proofs.Marked.{index_same, says}
+use Rattle.laws_marks.proofs.Marks.{none_of_it}
+use Rattle.result_lines.specs.declared.reduction.Reduction.{Reduction}
+use Rattle.laws_marks.specs.Said.{knowledge, said_at}
+use Rattle.laws_marks.specs.Verdicts.{Says}
 use Rattle.laws_marks.proofs.Merging.{Joined, merged, throughout_both}
 use Rattle.laws_marks.proofs.Own.{passing}
 use Rattle.laws_marks.proofs.Modules.{each_two, no_entry, with_their_marks, MarksStand, marks_stand}
@@ -60,9 +61,9 @@ module _ (ps : List ParsedTree) (sss : List (List SymbolTree)) (g : Graph) (x : 
       abbrev k : Known
       k = f.known
 
-      module _ (l : LoopTree) (is_do : loop_in p.statement f.known.read.body ≡ Some l) (ns : List ℕ) (v : value_at f.marks p.statement ≡ Some (Parallel ns)) where
-        mark : Says (knowledge g f) p.statement l ns
-        mark = says g f st.module_stands.numbered st.is p.statement l is_do ns v
+      module _ (l : LoopTree) (is_do : loop_in p.statement f.known.read.body ≡ Some l) (reductions : Bool) (r : Reduction) (v : said_at g reductions f p.statement ≡ Some r) where
+        said : Says (knowledge g f) p.statement l r
+        said = says g f st.module_stands.numbered st.is p.statement l is_do reductions r v
 
         same_places : at ≡ places_in p.statement t s i at
         same_places = sym (ap (λ n. places_in n t s i at) number)
@@ -71,19 +72,19 @@ module _ (ps : List ParsedTree) (sss : List (List SymbolTree)) (g : Graph) (x : 
         index_dead c n wr =
             let stand = e l is_do in
             let same : ((knowledge g f).body l).index ≡ c = index_same g f st.module_stands.numbered st.is l ∙ stand.number c n in
-            let may : may_copy k.read k.symbols (Own c) ≡ true = subst (λ i. may_copy k.read k.symbols (Own i) ≡ true) same mark.index in
+            let may : may_copy k.read k.symbols (Own c) ≡ true = subst (λ i. may_copy k.read k.symbols (Own i) ≡ true) same said.index in
             dead_if (known_of ps sss) g (phases_of f) seen j number own l is_do (Own c) may
-            (λ y o. none_of_it (Own c) (set_at f.outs.at p.statement) (subst (λ i. is_of_some (Own i) (set_at f.outs.at p.statement) ≡ false) same mark.unused) o.region o.is_one o.same)
+            (λ y o. none_of_it (Own c) (set_at f.outs.at p.statement) (subst (λ i. is_of_some (Own i) (set_at f.outs.at p.statement) ≡ false) same said.unused) o.region o.is_one o.same)
             (λ i. pos 0) (unit_in (places_in p.statement t s i at) c)
             (subst (λ (q : Places). elements_with (known_of ps sss) g k.symbols q (Own c) (λ i. pos 0) ≡ Some (unit_in q c)) same_places (stand.index c n (passing k.read k.symbols c may) (λ i. pos 0))) wr
 
         uses_same : (knowledge g f).uses p.statement l ≡ uses_in (phases_of f) p.statement l
         uses_same = refl
 
-        pub marked_dead : MarkedIsDead (known_of ps sss) g (scope_of g.untracked k) l ns seen
+        pub marked_dead : MarkedIsDead (known_of ps sss) g (scope_of g.untracked k) l r.private seen
         marked_dead = record {
           index = index_dead;
-          names = λ n i. private l is_do (Own n) (subst (λ (u : Uses). private_in k.read k.symbols u (Own n) ≡ Yes) uses_same (mark.names n i));
+          names = λ n i. private l is_do (Own n) (subst (λ (u : Uses). private_in k.read k.symbols u (Own n) ≡ Yes) uses_same (said.private n i));
         }
 
     -- what is claimed of a module with its OUT regions
@@ -113,7 +114,7 @@ module _ (ps : List ParsedTree) (sss : List (List SymbolTree)) (g : Graph) (x : 
       where
         go : (n : ℕ) → p.statement ≡ n → MarkIsDead (known_of ps sss) g f seen
         go zero e = λ l is_do. absurd (no_entry ps sss g x copies (phases_of f) st.module_stands l (subst (λ n. loop_in n f.known.read.body ≡ Some l) e is_do))
-        go (suc j) e = λ l is_do ns v. marked_dead j e f st (c.units q) (c.copied q) (c.private q) l is_do ns v
+        go (suc j) e = λ l is_do reductions r v. marked_dead j e f st (c.units q) (c.copied q) (c.private q) l is_do reductions r v
 
     marks_each : Each UnitsOf (outs_of ps sss g) → Each CopiesOf (outs_of ps sss g) → Each PrivatesOf (outs_of ps sss g) → Each MarkOf (all_marks g (outs_of ps sss g))
     marks_each e a b =

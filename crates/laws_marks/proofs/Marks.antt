@@ -1,12 +1,11 @@
 -- What a mark says of a DO that is parallel.
-use Rattle.std.proofs.Common.{◌≡◌, ℕ, ◌||◌, Bool, true, false, List, [], ◌∷◌, Option, Some, None, refl, sym, ◌∙◌, subst, true≢false, nat_eq, suc, zero, ◌-◌}
-use Rattle.std.specs.Prelude.{if◌then◌else◌, not, slice_get}
-use Rattle.std.proofs.lemmas.Bool.{or_parts, not-false, eqb-true}
+use Rattle.std.proofs.Common.{◌≡◌, ℕ, Bool, true, false, List, [], ◌∷◌, Option, Some, None, refl, sym, ◌∙◌, subst, true≢false, nat_eq, suc, zero, ◌-◌}
+use Rattle.std.specs.Prelude.{if◌then◌else◌, slice_get}
+use Rattle.std.proofs.lemmas.Bool.{or_parts, eqb-true}
 use Rattle.f77_ast.specs.Trees.{StmtTree, WhatTree, ArmTrees, ElseTree, LoopTree, StmtTrees}
 use Rattle.f77_ast.specs.Trees as tree
 use Rattle.f77_ast.specs.Shapes.{walk_stmt, walk_what, walk_body, walk_arms, walk_else, walk_list}
 use Rattle.f77_ast.specs.declared.variable.Variable.{Variable as Named}
-use Rattle.f77_ast.specs.declared.variable.Variable.TheVariants.{Own, Block, Saved}
 use Rattle.f77_ast.specs.Shared.{numbered}
 use Rattle.f77_ast.specs.declared.results.At.{At}
 use Rattle.preconditions.specs.transformer_algebra.Laws.{In, here, there}
@@ -14,25 +13,16 @@ use Rattle.preconditions.specs.transformers.Lists.{first_at, or_first, value_at}
 use Rattle.preconditions.specs.transformers.Statement.{at}
 use Rattle.f77_ast.specs.declared.marks.Kinds.{Kinds}
 use Rattle.f77_ast.specs.declared.marks.Mark.{Mark}
-use Rattle.f77_ast.specs.declared.marks.Mark.TheVariants.{Parallel, Serial}
 use Rattle.f77_ast.specs.declared.marks.Private.{Private}
 use Rattle.f77_ast.specs.declared.marks.Private.TheVariants.{Yes, Name, Carried, Live}
-use Rattle.f77_ast.specs.declared.marks.Reason.{Reason}
 use Rattle.in_out_regions.specs.region_sets.declared.region.Region.{Region}
-use Rattle.loop_marker.specs.dependence_test.declared.body.LoopBody.{LoopBody}
-use Rattle.loop_marker.specs.privatizer.Names.{may_copy}
-use Rattle.loop_marker.specs.privatizer.Private.{private_in}
-use Rattle.loop_marker.specs.privatizer.Uses.{Uses}
-use Rattle.loop_marker.specs.declared.verdict.Verdict.{Verdict}
-use Rattle.loop_marker.specs.declared.verdict.Verdict.TheVariants.{Free, Copied, Bad}
-use Rattle.loop_marker.specs.Jumps.{may_jump, may_have_io, body_of}
-use Rattle.loop_marker.specs.Marks.{Knowledge, is_in_bounds, is_other_result, index_is_bad, kinds_of, unless_named, copy_answer, with_own, by_kinds, verdict_of, by_verdict, marked, by_variables, has_step, by_index, by_step, by_io, mark_of, the_marks}
-use Rattle.loop_marker.specs.Variables.{inner_in, written_in, is_of_some}
-use Rattle.f77_ast.specs.Variables.{union, same_variable}
+use Rattle.loop_marker.specs.declared.verdict.Verdict.TheVariants.{Copied}
+use Rattle.loop_marker.specs.Marks.{unless_named, by_kinds, the_marks}
+use Rattle.loop_marker.specs.Variables.{is_of_some}
+use Rattle.f77_ast.specs.Variables.{same_variable}
 use Rattle.call_graph.specs.CallsIn.{Each}
 use Rattle.laws_analyses.proofs.Statements.Placing.{each_parts}
 use Rattle.laws_marks.proofs.ConflictWhats.{stmt_whats, part_whats, list_whats, arms_whats, else_whats, loop_whats}
-use Rattle.laws_marks.proofs.Outs.{in_both}
 use Rattle.f77_ast.proofs.SameLaws.{same_itself}
 use Rattle.call_graph.proofs.EachLaws.{each_joined}
 
@@ -51,68 +41,7 @@ unnamed_yes named Name e = cc
 unnamed_yes named Carried e = cc
 unnamed_yes named Live e = cc
 
-copied_private : (k : Knowledge) (b : LoopBody) (u : Uses) (l : LoopTree) (inner : List Named) (v : Named) → verdict_of k b u l inner v ≡ Copied → private_in k.tree k.symbols u v ≡ Yes
-copied_private k b u l inner v e = unnamed_yes (is_in_bounds k.symbols l v || is_other_result k.tree k.symbols l v) (private_in k.tree k.symbols u v) (copied_yes (kinds_of k.symbols b inner v) (copy_answer k u l v) (go (same_variable v (Own b.index)) e))
-  where
-    go : (c : Bool) → (if c then Free else by_kinds (kinds_of k.symbols b inner v) (copy_answer k u l v)) ≡ Copied → by_kinds (kinds_of k.symbols b inner v) (copy_answer k u l v) ≡ Copied
-    go true q = cc
-    go false q = q
-
-module _ (f : Named → Verdict) (P : ℕ → Type 0) (copied : (n : ℕ) → f (Own n) ≡ Copied → P n) where
-  more_own : (v : Named) → f v ≡ Copied → (so_far : List ℕ) → ((n : ℕ) → In n so_far → P n) → (n : ℕ) → In n (with_own so_far v) → P n
-  more_own (Own m) e so_far h n i = in_both P so_far (m ∷ []) h one n i
-    where
-      one : (n : ℕ) → In n (m ∷ []) → P n
-      one n here = copied n e
-      one n (there j) = elim j [ ]
-  more_own (Block x) e so_far h n i = h n i
-  more_own (Saved x y) e so_far h n i = h n i
-
-  pub names_copied : (vs : List Named) (so_far ns : List ℕ) → ((n : ℕ) → In n so_far → P n) → marked f so_far vs ≡ Parallel ns → (n : ℕ) → In n ns → P n
-  names_copied [] so_far ns h e n i = (let same : so_far ≡ ns = cc in h n (subst (λ zs. In n zs) (sym same) i))
-  names_copied (v ∷ vs) so_far ns h e n i = go (f v) refl e (names_copied vs so_far ns h) (λ q. names_copied vs (with_own so_far v) ns (λ m j. more_own v q so_far h m j))
-    where
-      go : (w : Verdict) → f v ≡ w → by_verdict v (marked f so_far vs) (marked f (with_own so_far v) vs) w ≡ Parallel ns → (marked f so_far vs ≡ Parallel ns → (n : ℕ) → In n ns → P n) → (f v ≡ Copied → marked f (with_own so_far v) vs ≡ Parallel ns → (n : ℕ) → In n ns → P n) → P n
-      go Free q r next more = next r n i
-      go Copied q r next more = more q r n i
-      go (Bad ks p) q r next more = cc
-
--- ---- the mark of a DO
-
-pub record Says (k : Knowledge) (n : ℕ) (l : LoopTree) (ns : List ℕ) : Type 0 where
-  pub index : may_copy k.tree k.symbols (Own (k.body l).index) ≡ true
-  pub unused : is_of_some (Own (k.body l).index) (k.uses n l).outs ≡ false
-  pub names : (m : ℕ) → In m ns → private_in k.tree k.symbols (k.uses n l) (Own m) ≡ Yes
-
-pub serial_no : (r : Reason) (ns : List ℕ) → Serial r ≡ Parallel ns → ⊥
-serial_no r ns e = cc
-
-pub unless : (c : Bool) (r : Reason) (m : Mark) (ns : List ℕ) → (if c then Serial r else m) ≡ Parallel ns → (c ≡ false) × (m ≡ Parallel ns)
-unless true r m ns e = absurd (serial_no r ns e)
-unless false r m ns e = (refl, e)
-
-pub only_if : (c : Bool) (r : Reason) (m : Mark) (ns : List ℕ) → (if c then m else Serial r) ≡ Parallel ns → m ≡ Parallel ns
-only_if true r m ns e = e
-only_if false r m ns e = absurd (serial_no r ns e)
-
-pub mark_says : (k : Knowledge) (n : ℕ) (label : Option ℕ) (l : LoopTree) (ns : List ℕ) → mark_of k n label l ≡ Parallel ns → Says k n l ns
-mark_says k n label l ns e =
-    let b = k.body l in
-    let u = k.uses n l in
-    let inner = inner_in k.names k.tree l in
-    let a = (unless (may_jump k.tree.body k.effects label l) _ (by_io k n l) ns e).1 in
-    let c = (unless (may_have_io k.effects (body_of l)) _ (by_step k b u l inner) ns a).1 in
-    let d = only_if (has_step b) _ (by_index k b u l inner) ns c in
-    let i = unless (index_is_bad k b u l) _ (by_variables k b u l inner) ns d in
-    let o = or_parts (not (may_copy k.tree k.symbols (Own b.index))) (is_of_some (Own b.index) u.outs || is_in_bounds k.symbols l (Own b.index)) i.0 in
-    record {
-      index = not-false (may_copy k.tree k.symbols (Own b.index)) o.0;
-      unused = (or_parts (is_of_some (Own b.index) u.outs) (is_in_bounds k.symbols l (Own b.index)) o.1).0;
-      names = names_copied (verdict_of k b u l inner) (λ m. private_in k.tree k.symbols u (Own m) ≡ Yes) (λ m q. copied_private k b u l inner (Own m) q) (union inner (written_in b.regions)) [] ns none i.1;
-    }
-  where
-    none : (m : ℕ) → In m [] → private_in k.tree k.symbols (k.uses n l) (Own m) ≡ Yes
-    none m i = elim i [ ]
+-- ---- regions
 
 -- a variable of which no region is
 pub none_of_it : (v : Named) (rs : List Region) → is_of_some v rs ≡ false → (r : Region) → In r rs → r.variable ≡ v → ⊥

@@ -1,4 +1,4 @@
--- Where a DO is marked, what has the units in the places of the names of its directive.
+-- Where a DO has a directive, what has the units in the places of its names.
 use Rattle.std.proofs.Common.{◌≡◌, ◌⊎◌, inl, inr, ⊎_elim, ℕ, ℤ, zero, suc, ◌||◌, nat_eq, Bool, true, false, List, [], ◌∷◌, Some, refl, sym, ap, ◌∙◌, subst, true≢false}
 use Rattle.std.specs.Prelude.{unwrap_or}
 use Rattle.std.proofs.lemmas.Bool.{eqb-true}
@@ -17,9 +17,8 @@ use Rattle.affine_forms.specs.Claims.{unit_in}
 use Rattle.preconditions.specs.transformer_algebra.declared.transformer.Transformer.{Transformer}
 use Rattle.preconditions.specs.transformer_algebra.Laws.{In, here, there}
 use Rattle.preconditions.specs.call_translation.Scopes.{ScopeTree}
-use Rattle.preconditions.specs.transformers.Lists.{value_at, transformer_at}
+use Rattle.preconditions.specs.transformers.Lists.{transformer_at}
 use Rattle.f77_ast.specs.declared.results.At.{At}
-use Rattle.f77_ast.specs.declared.marks.Mark.TheVariants.{Parallel}
 use Rattle.f77_ast.specs.declared.marks.Private.TheVariants.{Yes}
 use Rattle.in_out_regions.specs.region_sets.declared.region.Region.{Region}
 use Rattle.in_out_regions.specs.region_sets.Lists.{accesses_at, set_at}
@@ -41,14 +40,16 @@ use Rattle.laws_interleavings.specs.Typed.{IsNoDummy}
 use Rattle.laws_marks.specs.MarkedFit.{IsCopied}
 use Rattle.laws_marks.specs.Dead.{index_name}
 use Rattle.laws_marks.specs.Units.{index_in, IsPassing, UnitsStand, ModuleUnitsStand}
-use Rattle.laws_marks.specs.Verdicts.{SaysParallel}
+use Rattle.result_lines.specs.declared.reduction.Reduction.{Reduction}
+use Rattle.laws_marks.specs.Said.{knowledge, said_at}
+use Rattle.laws_marks.specs.Verdicts.{Says}
 use Rattle.laws_marks.specs.Named.{AreNamesOf, IsOfIndex, IsOfOne, NamesStand, PlacesStand}
 use Rattle.laws_marks.proofs.Dead.{copy_of}
 use Rattle.laws_marks.proofs.Elements.{passing_stored}
 use Rattle.laws_marks.proofs.Functions.{number_means, own_there}
-use Rattle.laws_marks.proofs.Marked.{knowledge, index_same, says, says_all}
-use Rattle.laws_marks.proofs.Marks.{Says}
+use Rattle.laws_marks.proofs.Marked.{index_same, says}
 use Rattle.laws_marks.proofs.Own.{TablesTell, passing}
+use Rattle.laws_marks.proofs.PartsStanding.{parts_stand}
 use Rattle.laws_marks.proofs.Written.{written_names}
 use Rattle.laws_analyses.proofs.NameLaws.{name_number}
 use Rattle.fx_lists.proofs.Options.{some_same}
@@ -100,7 +101,10 @@ index_number m (tree.loop index first last step body) = refl
 -- ---- a DO
 
 module _ (ks : List Known) (g : Graph) (f : ModuleResults) (numbered : HasNumbers f.known.read.body) (is : f.marks ≡ marks_found g.untracked (phases_of f) f.effects) (tell : TablesTell ks g f.known) (x : Execution) (e : ModuleUnitsStand ks g (phases_of f).known x)
-    (l : LoopTree) (is_do : loop_in x.spot.statement f.known.read.body ≡ Some l) (ns : List ℕ) (v : value_at f.marks x.spot.statement ≡ Some (Parallel ns)) where
+    (l : LoopTree) (is_do : loop_in x.spot.statement f.known.read.body ≡ Some l) (reductions : Bool) (r : Reduction) (v : said_at g reductions f x.spot.statement ≡ Some r) where
+  abbrev ns : List ℕ
+  ns = r.private
+
   abbrev k : Known
   k = f.known
 
@@ -110,14 +114,11 @@ module _ (ks : List Known) (g : Graph) (f : ModuleResults) (numbered : HasNumber
   stand : UnitsStand ks g (names k.symbols) (fixed (numbering ks g) k) (dummies_from 1 k.symbols) m (set_at f.regions.at x.spot.statement) l x
   stand = e l is_do
 
-  mark : Says (knowledge g f) x.spot.statement l ns
-  mark = says g f numbered is x.spot.statement l is_do ns v
-
-  all : SaysParallel (knowledge g f) x.spot.statement l ns
-  all = says_all g f numbered is x.spot.statement l is_do ns v
+  said : Says (knowledge g f) x.spot.statement l r
+  said = says g f numbered is x.spot.statement l is_do reductions r v
 
   may : (n : ℕ) → In n ns → may_copy k.read k.symbols (Own n) ≡ true
-  may n i = copy_of (may_copy k.read k.symbols (Own n)) (is_carried ((knowledge g f).uses x.spot.statement l) (Own n)) (is_live ((knowledge g f).uses x.spot.statement l) (Own n)) (mark.names n i)
+  may n i = copy_of (may_copy k.read k.symbols (Own n)) (is_carried ((knowledge g f).uses x.spot.statement l) (Own n)) (is_live ((knowledge g f).uses x.spot.statement l) (Own n)) (said.private n i)
 
   -- a unit in the place of a local that is not saved
   element : (n : ℕ) → IsPassing k.symbols n → (u : ℕ) → in_place (x.places n) u ≡ true → (phi : ℕ → ℤ) × (elements_with ks g k.symbols x.places (Own n) phi ≡ Some u)
@@ -137,7 +138,7 @@ module _ (ks : List Known) (g : Graph) (f : ModuleResults) (numbered : HasNumber
       of_index : (n : ℕ) → names k.symbols (index_name l) ≡ Variable n → in_place (x.places n) u ≡ true → IsOfIndex (names k.symbols) l x.places u
       of_index n same p =
           let number : ((knowledge g f).body l).index ≡ n = index_same g f numbered is l ∙ stand.number n same in
-          let pass = passing k.read k.symbols n (subst (λ i. may_copy k.read k.symbols (Own i) ≡ true) number mark.index) in
+          let pass = passing k.read k.symbols n (subst (λ i. may_copy k.read k.symbols (Own i) ≡ true) number said.index) in
           let r = element n pass u p in
           record { symbol = n; is_symbol = same; unit = some_same (unit_in x.places n) u (sym (stand.index n same pass r.0) ∙ r.1) }
 
@@ -149,26 +150,27 @@ module _ (ks : List Known) (g : Graph) (f : ModuleResults) (numbered : HasNumber
     before = system_at f.preconditions.at x.spot.statement;
     outs = set_at f.outs.at x.spot.statement;
     copied = subst (λ (s : System). private_in k.read k.symbols (record { head = s; ins = ins_in k.symbols (transformer_at f.transformers.at) (set_at f.regions.at) (set_at f.ins.at) l; before = system_at f.preconditions.at x.spot.statement; outs = set_at f.outs.at x.spot.statement }) (Own o.number) ≡ Yes)
-        (head_same f.preconditions.at m (transformer_at f.transformers.at) (accesses_at f.regions.at) l) (mark.names o.number o.is_one);
+        (head_same f.preconditions.at m (transformer_at f.transformers.at) (accesses_at f.regions.at) l) (said.private o.number o.is_one);
     sole = tell.sole (Own o.number) (may o.number o.is_one);
   }
 
-  pub names_stand : NamesStand ks g m (names k.symbols) (loop_with g (phases_of f).known l) l ns x.places
+  pub names_stand : NamesStand ks g m (names k.symbols) (loop_with g (phases_of f).known l) l r.private x.places
   names_stand = record { written = written_names k.symbols l ns tell.distinct (λ n i. passing k.read k.symbols n (may n i)); units = units; copied = copied }
 
   -- the variables of its directive, and that of the DO, lie at their own places
-  pub places_stand : PlacesStand ks g k l ns x.places
+  pub places_stand : PlacesStand ks g k l r x.places
   places_stand = record {
     locals = λ n i. passing k.read k.symbols n (may n i);
     sole = λ n i. tell.sole (Own n) (may n i);
     distinct = tell.distinct;
-    taken = λ y i w e. ⊎_elim inl (λ q. inr (number_means k.symbols y (index_name l) w e (q ∙ (index_same g f numbered is l ∙ index_number m l)))) (all.taken y i w (name_number k.symbols y w e));
-    shown = λ n i e. (let p = passing k.read k.symbols n (may n i) in own_there k.read l k.symbols n p.symbol p.is_symbol (all.others n i) e);
+    taken = λ y i w e. ⊎_elim inl (λ q. inr (number_means k.symbols y (index_name l) w e (q ∙ (index_same g f numbered is l ∙ index_number m l)))) (said.taken y i w (name_number k.symbols y w e));
+    shown = λ n i e. (let p = passing k.read k.symbols n (may n i) in own_there k.read l k.symbols n p.symbol p.is_symbol (said.others n i) e);
     placed = λ w h. at_place w (⊎_elim (λ i. passing k.read k.symbols w (may w i)) (of_index w) h);
+    parts = parts_stand ks g f x.spot.statement l r said x.places tell.sole at_place (λ w e. index_same g f numbered is l ∙ stand.number w e);
   }
     where
       of_index : (w : ℕ) → names k.symbols (index_name l) ≡ Variable w → IsPassing k.symbols w
-      of_index w same = passing k.read k.symbols w (subst (λ i. may_copy k.read k.symbols (Own i) ≡ true) (index_same g f numbered is l ∙ stand.number w same) mark.index)
+      of_index w same = passing k.read k.symbols w (subst (λ i. may_copy k.read k.symbols (Own i) ≡ true) (index_same g f numbered is l ∙ stand.number w same) said.index)
 
       at_place : (w : ℕ) → IsPassing k.symbols w → IsNoDummy (dummies_from 1 k.symbols) w × (x.places w ≡ fixed (numbering ks g) k w)
       at_place w p = (none_of (dummies_from 1 k.symbols) w (tell.local w p), stand.fixed w (tell.local w p))

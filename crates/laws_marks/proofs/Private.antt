@@ -1,6 +1,5 @@
--- Each variable of a WRITE region of the body of a DO that is parallel has no conflict, or its units are private.
-use Rattle.std.proofs.Common.{◌≡◌, ◌⊎◌, inl, inr, ℕ, ℤ, ◌||◌, Bool, true, false, List, [], ◌∷◌, Option, Some, None, refl, sym, ap, ◌∙◌, subst, nat_eq, true≢false}
-use Rattle.std.specs.Prelude.{◌<◌}
+-- Each variable of a WRITE region of the body of a DO of which this is said has no conflict, or each iteration has its units for itself.
+use Rattle.std.proofs.Common.{◌≡◌, ◌⊎◌, inl, inr, ℕ, ℤ, Bool, true, false, List, [], ◌∷◌, Some, sym, ap, ◌∙◌, subst, nat_eq}
 use Rattle.std.proofs.lemmas.Bool.{or_left, or_right}
 use Rattle.f77_ast.specs.Trees.{StmtTrees}
 use Rattle.f77_ast.specs.DeclTrees.{ModuleTree}
@@ -9,7 +8,6 @@ use Rattle.f77_ast.specs.Store.{Store}
 use Rattle.f77_ast.specs.Calls.{in_place}
 use Rattle.f77_ast.specs.Loops.{Range}
 use Rattle.f77_ast.specs.Writes.{Locks}
-use Rattle.f77_ast.specs.Symbols.{SymbolTree}
 use Rattle.f77_ast.specs.Shared.{symbol_at}
 use Rattle.f77_ast.specs.declared.variable.Variable.{Variable as Named}
 use Rattle.f77_ast.specs.declared.variable.Variable.TheVariants.{Own}
@@ -22,7 +20,9 @@ use Rattle.loop_marker.specs.dependence_test.Conflicts.{conflict_of}
 use Rattle.laws_interleavings.specs.MarkedStatements.{MarkedScope, own_in, unit_of, unit_of_some, marked_loop}
 use Rattle.laws_analyses.specs.Regions.Settings.{is_stored, elements_if, elements_with}
 use Rattle.laws_marks.specs.ConflictClaims.{KnownLoop}
-use Rattle.laws_marks.specs.MarkedFit.{IsUnitOf, IsFree, HasPrivateUnits}
+use Rattle.result_lines.specs.declared.reduction.Part.{Part}
+use Rattle.result_lines.specs.declared.reduction.Reduction.{Reduction}
+use Rattle.laws_marks.specs.MarkedFit.{IsUnitOf, IsFree, HasOwnUnits, HasPrivateUnits}
 use Rattle.laws_marks.proofs.Own.{in_its_place}
 use Rattle.laws_marks.specs.Verdicts.{IsCleared}
 use Rattle.fx_lists.proofs.Options.{some_same}
@@ -51,16 +51,18 @@ module _ (ks : List Known) (g : Graph) (k : ScopeTree) (at : Places) (d : KnownL
       let there : in_place (at n) u ≡ true = stored_place (is_stored (symbol_at k.symbols n)) (at n) h.phi u h.there in
       or_right (nat_eq u v) _ (or_left (unit_of_some xs sc.plain.names at u) (own_in sc body u) (some_unit sc.plain.names at xs y n u i e there))
 
-  -- ---- the variable of the DO, whose one element has the unit of the loop, and those of which iterations have copies
+  -- ---- the variable of the DO, whose one element has the unit of the loop, those of which iterations have copies, and reduction variables
 
-  module _ (s : Store) (scalar : (phi : ℕ → ℤ) → elements_with ks g k.symbols at (Own d.body.index) phi ≡ Some v) (tree : ModuleTree) (ns : List ℕ) (own : (n : ℕ) → In n ns → HasPrivateUnits ks g k at (marked_loop xs sc body at r v inner) s (Own n)) where
+  module _ (s : Store) (scalar : (phi : ℕ → ℤ) → elements_with ks g k.symbols at (Own d.body.index) phi ≡ Some v) (tree : ModuleTree) (said : Reduction) (own : ℕ → Bool) (wider : (u : ℕ) → (marked_loop xs sc body at r v inner).private u ≡ true → own u ≡ true)
+      (private : (n : ℕ) → In n said.private → HasPrivateUnits ks g k at (marked_loop xs sc body at r v inner) s (Own n)) (parts : (p : Part) → In p said.parts → HasOwnUnits ks g k at own (marked_loop xs sc body at r v inner) s (Own p.cell)) where
     abbrev Has : Named → Type 0
-    Has y = HasPrivateUnits ks g k at (marked_loop xs sc body at r v inner) s y
+    Has y = HasOwnUnits ks g k at own (marked_loop xs sc body at r v inner) s y
 
     of_index : Has (Own d.body.index)
-    of_index u h j lt w = or_left (nat_eq u v) _ (ap (nat_eq u) (some_same v u (sym (scalar h.phi) ∙ h.there)) ∙ nat_eq_same u)
+    of_index u h j lt w = wider u (or_left (nat_eq u v) _ (ap (nat_eq u) (some_same v u (sym (scalar h.phi) ∙ h.there)) ∙ nat_eq_same u))
 
-    pub verdict : (y : Named) → IsCleared tree k.symbols d.body ns y → IsFree k d y ⊎ Has y
+    pub verdict : (y : Named) → IsCleared tree k.symbols d.body said y → IsFree k d y ⊎ Has y
     verdict y (inl e) = inr (subst Has (sym e) of_index)
     verdict y (inr (inl f)) = inl (λ kinds. ap conflict_of (f kinds))
-    verdict y (inr (inr q)) = inr (subst Has (sym q.is) (own q.number q.one))
+    verdict y (inr (inr (inl q))) = inr (subst Has (sym q.is) (λ u h j lt w. wider u (private q.number q.one u h j lt w)))
+    verdict y (inr (inr (inr q))) = inr (subst Has (sym q.is) (parts q.part q.one))

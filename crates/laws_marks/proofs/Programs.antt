@@ -1,17 +1,17 @@
--- Programs that are read, with directives that are marks: what is claimed of marked loops holds along their runs, and so these do the same by any schedule.
-use Rattle.std.proofs.Common.{◌≡◌, ◌⊎◌, inl, inr, ⊎_elim, ℕ, List, [], ◌∷◌, map, sym, ap, subst}
+-- Programs that are read, with directives that say what is found: what is claimed of marked loops holds along their runs, and so these do the same by any schedule.
+use Rattle.std.proofs.Common.{◌≡◌, ◌⊎◌, inl, inr, ⊎_elim, ℕ, Bool, List, [], ◌∷◌, map, sym, ap, subst}
 use Rattle.f77_ast.specs.DeclTrees.{ParsedTree}
 use Rattle.f77_ast.specs.StatementNumbers.{HasNumbers}
 use Rattle.f77_ast.specs.Store.{Content}
 use Rattle.f77_ast.specs.Runs.{Event, Answer, Gave, Broke, Ran}
-use Rattle.f77_ast.specs.Plans.{Flow, Normal, Jump, Returned, Stopped, Plan}
+use Rattle.f77_ast.specs.Plans.{Flow, Plan}
 use Rattle.f77_ast.specs.Executions.{run_of}
 use Rattle.f77_ast.specs.Programs.{Routine, Program, program_plan, program_run, Conforms, EndsRun}
 use Rattle.f77_ast.specs.Symbols.{SymbolTree}
 use Rattle.call_graph.specs.declared.graph.Graph.{Graph}
 use Rattle.f77_meaning.specs.Areas.{Numbering}
 use Rattle.f77_meaning.specs.Modules.{Known, known_of}
-use Rattle.f77_meaning.specs.Linked.{numbering, routine, main_of, subroutines, program_of}
+use Rattle.f77_meaning.specs.Linked.{numbering, routine, main_of, program_of}
 use Rattle.loop_marker.specs.Results.{ModuleResults}
 use Rattle.loop_marker.specs.Phases.{all_marks}
 use Rattle.laws_programs.specs.Programs.{IsProgram}
@@ -22,31 +22,34 @@ use Rattle.call_graph.specs.CallsIn.{Each}
 use Rattle.laws_analyses.proofs.MainLaws.{MainOf, main_from}
 use Rattle.laws_analyses.proofs.Modules.{IsIn, subs, subs_in, subs_are}
 use Rattle.laws_analyses.proofs.UnitLaws.{module_at}
+use Rattle.call_graph.proofs.EachLaws.{each_more}
 use Rattle.laws_marks.specs.ConflictExecutions.{Execution}
+use Rattle.laws_marks.specs.Standings.{AllLocalsAreApart, LocalsStayApart, StoresStayInRange}
 use Rattle.laws_interleavings.specs.Laws.{MarkedRunsAgree, LongSchedulesEnd, MarksAreForgotten}
-use Rattle.laws_interleavings.specs.Marks.{plain, plain_run, parallel_run}
+use Rattle.laws_interleavings.specs.Marks.{plain_run}
 use Rattle.laws_interleavings.specs.Holds.{MarksHold}
-use Rattle.laws_interleavings.specs.Sound.{SameEnd, IsShort, Enough}
+use Rattle.laws_interleavings.specs.Sound.{SameEnd, IsShort}
 use Rattle.laws_interleavings.specs.MarkedPrograms.{Directives, marked_program, marked_run}
 use Rattle.laws_interleavings.specs.Typed.{AllTagged}
 use Rattle.laws_interleavings.specs.Plans.Cleared.{AllApart, AllEnd}
 use Rattle.laws_interleavings.specs.Plans.Uses.{MarkedProgramsAreStrict}
-use Rattle.laws_marks.specs.MarkedLaws.{LoopsBegin, LoopsHold}
+use Rattle.laws_interleavings.specs.Plans.Touched.{StoreInRange}
+use Rattle.laws_marks.specs.MarkedLaws.{LoopsBegin, LoopsHold, ReducedLoopsHold}
 use Rattle.laws_marks.specs.Inactive.{IsOfSome, IsInactive, InactiveHaveNone}
 use Rattle.laws_marks.specs.OwnLaws.{VariablesHaveTypes, CallsEnd, InactiveUnitsHaveNone}
 use Rattle.laws_marks.proofs.Order.{Named, Distinct, names_distinct}
 use Rattle.laws_marks.specs.DeadLaws.{AllUnitsStand, AllNamesStand, AllMarkedLoopsAreDead, ReadUnitsStand, ReadNamesStand, ReadMarkedLoopsAreDead, outs_of}
 use Rattle.laws_marks.specs.Named.{NamesAreCopied}
 use Rattle.laws_marks.specs.Known.{Finishes, AllMarkedLoopsAreKnown, ReadMarkedLoopsAreKnown}
-use Rattle.laws_marks.specs.Rests.{EachWithRest, Both, occurrence_of}
+use Rattle.laws_marks.specs.Rests.{EachWithRest, Both}
 use Rattle.laws_marks.specs.Loops.{AreOutside, RoutineHolds, RoutinesHold}
-use Rattle.laws_marks.specs.Directives.{AreOfMarks}
+use Rattle.laws_marks.specs.Directives.{AreFound}
 use Rattle.laws_marks.specs.Accepted.{ReadMarksHold, ReadRunsAsPlain}
 use Rattle.laws_marks.proofs.Together.{together, alone, follows}
 use Rattle.laws_marks.proofs.Unbroken.{IsUnbroken, unbroken, each_both}
 use Rattle.laws_marks.proofs.Units.{units, more_units, all_outside}
 use Rattle.laws_marks.proofs.Fitted.{Stands}
-use Rattle.laws_marks.proofs.AtMarked.{Claimed, PlacesOf, routine_holds}
+use Rattle.laws_marks.proofs.AtMarked.{Claimed, PlacesOf, ApartOf, routine_holds}
 use Rattle.laws_marks.proofs.Runs.{in_runs}
 use Rattle.laws_programs.proofs.Effects.Once.{main_of_linked as some_main}
 use Rattle.fx_lists.proofs.Texts.{same_name}
@@ -90,8 +93,8 @@ rest_of_suffix p turns r rs d s = record {
 
 -- ---- programs
 
-module _ (begin : LoopsBegin) (hold : LoopsHold) (copied : NamesAreCopied) (types : VariablesHaveTypes) (calls : CallsEnd) (cleared : InactiveUnitsHaveNone) (stand : ReadNamesStand) (dead : ReadMarkedLoopsAreDead) (knowns : ReadMarkedLoopsAreKnown)
-    (ps : List ParsedTree) (sss : List (List SymbolTree)) (g : Graph) (x : IsProgram ps sss g) (turns : ℕ) (d : Directives) (of_marks : AreOfMarks (all_marks g (outs_of ps sss g)) d) (modules : Each (λ (f : ModuleResults). IsIn (known_of ps sss) f.known) (all_marks g (outs_of ps sss g))) where
+module _ (begin : LoopsBegin) (hold : LoopsHold) (reduce : ReducedLoopsHold) (copied : NamesAreCopied) (types : VariablesHaveTypes) (calls : CallsEnd) (cleared : InactiveUnitsHaveNone) (stand : ReadNamesStand) (dead : ReadMarkedLoopsAreDead) (knowns : ReadMarkedLoopsAreKnown)
+    (ps : List ParsedTree) (sss : List (List SymbolTree)) (g : Graph) (x : IsProgram ps sss g) (turns : ℕ) (reductions : Bool) (d : Directives) (are_found : AreFound g reductions (all_marks g (outs_of ps sss g)) d) (modules : Each (λ (f : ModuleResults). IsIn (known_of ps sss) f.known) (all_marks g (outs_of ps sss g))) where
   abbrev ks : List Known
   ks = known_of ps sss
 
@@ -108,7 +111,7 @@ module _ (begin : LoopsBegin) (hold : LoopsHold) (copied : NamesAreCopied) (type
   others = subs (known_of ps sss) g.order
 
   abbrev C : Execution → List Event → Type 0
-  C = Claimed begin hold copied ps sss g x turns d
+  C = Claimed begin hold reduce copied ps sss g x turns d
 
   numbered : (k : Known) → IsIn (known_of ps sss) k → HasNumbers k.read.body
   numbered k h =
@@ -121,7 +124,7 @@ module _ (begin : LoopsBegin) (hold : LoopsHold) (copied : NamesAreCopied) (type
   all_hold : (xs : List Known) → Each (IsIn (known_of ps sss)) xs → Distinct (map of xs) → Suffix (program_of (known_of ps sss) g) turns (map of xs) → RoutinesHold turns d (units N) C (map of xs)
   all_hold [] h e s = tt
   all_hold (k ∷ xs) h e s = (
-    routine_holds begin hold copied ps sss g x turns d of_marks modules numbered k h.0 xs h.1 e (stands_of (program_of (known_of ps sss) g) turns (of k) (map of xs) s),
+    routine_holds begin hold reduce copied ps sss g x turns d reductions are_found modules numbered k h.0 xs h.1 e (stands_of (program_of (known_of ps sss) g) turns (of k) (map of xs) s),
     all_hold xs h.1 e.1 (rest_of_suffix (program_of (known_of ps sss) g) turns (of k) (map of xs) e s),
   )
 
@@ -156,7 +159,7 @@ module _ (begin : LoopsBegin) (hold : LoopsHold) (copied : NamesAreCopied) (type
   main_holds : RoutineHolds turns d (units N) C P.main P.others
   main_holds =
       subst (λ rs. RoutineHolds turns d (units N) C (of (main_of (known_of ps sss))) rs) others_are
-      (routine_holds begin hold copied ps sss g x turns d of_marks modules numbered (main_of (known_of ps sss)) main_in others (subs_in (known_of ps sss) g.order) distinct main_stands)
+      (routine_holds begin hold reduce copied ps sss g x turns d reductions are_found modules numbered (main_of (known_of ps sss)) main_in others (subs_in (known_of ps sss) g.order) distinct main_stands)
 
   others_hold : RoutinesHold turns d (units N) C P.others
   others_hold = subst (RoutinesHold turns d (units N) C) others_are (all_hold others (subs_in (known_of ps sss) g.order) distinct.1 suffix)
@@ -166,9 +169,14 @@ module _ (begin : LoopsBegin) (hold : LoopsHold) (copied : NamesAreCopied) (type
 
   -- ---- a run
 
-  module _ (units_stand : ReadUnitsStand) (placed : (e : Execution) → AllUnitsStand (known_of ps sss) g (outs_of ps sss g) e → Each (PlacesOf begin hold copied ps sss g x turns d e) (all_marks g (outs_of ps sss g))) (input : List Content) (ends : EndsRun (program_run P turns input).answer) where
+  module _ (units_stand : ReadUnitsStand) (placed : (e : Execution) → AllUnitsStand (known_of ps sss) g (outs_of ps sss g) e → Each (PlacesOf begin hold reduce copied ps sss g x turns d e) (all_marks g (outs_of ps sss g)))
+      (apart : LocalsStayApart) (ranges : StoresStayInRange) (input : List Content) (ends : EndsRun (program_run P turns input).answer) where
     abbrev t : Plan
     t = program_plan P turns
+
+    apart_of : (e : Execution) → AllLocalsAreApart (known_of ps sss) e → Each (ApartOf begin hold reduce copied ps sss g x turns d e) (all_marks g (outs_of ps sss g))
+    apart_of e h =
+        each_more (λ (f : ModuleResults). IsIn (known_of ps sss) f.known) (ApartOf begin hold reduce copied ps sss g x turns d e) (all_marks g (outs_of ps sss g)) (λ f i. h i.at f.known i.is_module) modules
 
     claimed : EachWithRest C t P.initial input (λ f s i. [])
     claimed =
@@ -181,11 +189,16 @@ module _ (begin : LoopsBegin) (hold : LoopsHold) (copied : NamesAreCopied) (type
         let S = AllUnitsStand (known_of ps sss) g (outs_of ps sss g) in
         let v = alone S t P.initial input (λ f s i. []) (units_stand ps sss g x turns input) in
         let b = alone B t P.initial input (λ f s i. []) (cleared ps sss g x turns input) in
+        let G = λ (e : Execution). AllLocalsAreApart (known_of ps sss) e in
+        let H = λ (e : Execution). StoreInRange e.start in
+        let w = each_both (λ y later. G y) (λ y later. H y) t P.initial input (λ f s i. []) (alone G t P.initial input (λ f s i. []) (apart ps sss g x turns input)) (alone H t P.initial input (λ f s i. []) (ranges ps sss g x turns input)) in
         let e = together E D t P.initial input (λ f s i. []) (stand ps sss g x turns input) (dead ps sss g x turns input (ends_conforms (program_run P turns input).answer ends)) in
         let u = unbroken t P.initial input (λ f s i. []) (ends_unbroken (program_run P turns input).answer ends) in
-        follows (λ y later. (A y × (B y × S y)) × (Both E D y later × IsUnbroken y later)) C (λ y later h. record { unbroken = h.1.1; known = h.0.0; inactive = h.0.1.0; names = h.1.0.0; placed = placed y h.0.1.1; dead = h.1.0.1 }) t P.initial input (λ f s i. [])
-        (each_both (λ y later. A y × (B y × S y)) (λ y later. Both E D y later × IsUnbroken y later) t P.initial input (λ f s i. [])
-        (each_both (λ y later. A y) (λ y later. B y × S y) t P.initial input (λ f s i. []) a (each_both (λ y later. B y) (λ y later. S y) t P.initial input (λ f s i. []) b v)) (each_both (Both E D) IsUnbroken t P.initial input (λ f s i. []) e u))
+        follows (λ y later. ((A y × (B y × S y)) × (G y × H y)) × (Both E D y later × IsUnbroken y later)) C
+        (λ y later h. record { unbroken = h.1.1; known = h.0.0.0; inactive = h.0.0.1.0; names = h.1.0.0; placed = placed y h.0.0.1.1; apart = apart_of y h.0.1.0; in_range = h.0.1.1; dead = h.1.0.1 }) t P.initial input (λ f s i. [])
+        (each_both (λ y later. (A y × (B y × S y)) × (G y × H y)) (λ y later. Both E D y later × IsUnbroken y later) t P.initial input (λ f s i. [])
+        (each_both (λ y later. A y × (B y × S y)) (λ y later. G y × H y) t P.initial input (λ f s i. [])
+        (each_both (λ y later. A y) (λ y later. B y × S y) t P.initial input (λ f s i. []) a (each_both (λ y later. B y) (λ y later. S y) t P.initial input (λ f s i. []) b v)) w) (each_both (Both E D) IsUnbroken t P.initial input (λ f s i. []) e u))
 
     pub marks_hold : MarksHold (marked_program P turns d) P.initial input []
     marks_hold =
@@ -196,14 +209,14 @@ module _ (begin : LoopsBegin) (hold : LoopsHold) (copied : NamesAreCopied) (type
 
 module _ (agree : MarkedRunsAgree) (long : LongSchedulesEnd) (forgotten : MarksAreForgotten) (strict : MarkedProgramsAreStrict) (types : VariablesHaveTypes) (marks : ReadMarksHold) where
   pub runs_as_plain : ReadRunsAsPlain
-  runs_as_plain ps sss g x d of_marks turns input ends schedule =
+  runs_as_plain ps sss g x reductions d are_found turns input ends schedule =
       let p = program_of (known_of ps sss) g in
       let z = types ps sss g x in
       let t = marked_program p turns d in
       let same = forgotten p turns d in
       let run : plain_run t p.initial input ≡ program_run p turns input = ap (λ (q : Plan). run_of q p.initial input) same in
       let ok = subst (λ (q : Ran Flow). Conforms q.answer) (sym run) (ends_conforms (program_run p turns input).answer ends) in
-      let m = marks ps sss g x d of_marks turns input ends in
+      let m = marks ps sss g x reductions d are_found turns input ends in
       let s = strict p turns d z.no_dummies z.main z.others in (
         subst (λ (q : Ran Flow). SameEnd q (marked_run p turns d schedule input) ⊎ IsShort q (marked_run p turns d schedule input)) run (agree t p.initial input s ok m schedule),
         λ enough. subst (λ (q : Ran Flow). SameEnd q (marked_run p turns d schedule input)) run (long t p.initial input s ok m schedule enough),

@@ -1,7 +1,7 @@
 -- The executions in CALLs, and in a program, of a unit of a module or of its expressions.
 use Rattle.std.proofs.Common.{◌≡◌, ◌⊎◌, inl, inr, ⊎_elim, ℕ, List, [], ◌∷◌, Bool, true, false, ap, subst, nat_eq, bytes_eq}
 use Rattle.std.specs.Prelude.{if◌then◌else◌}
-use Rattle.f77_ast.specs.Store.{Content, Store, put, undefined}
+use Rattle.f77_ast.specs.Store.{Content, put, undefined}
 use Rattle.f77_ast.specs.Places.{Place, Places}
 use Rattle.f77_ast.specs.Writes.{Locks, no_locks}
 use Rattle.f77_ast.specs.Plans.{Plan, Ends, Within, steps_of}
@@ -18,7 +18,7 @@ use Rattle.laws_interleavings.proofs.Plans.Cleared.{forgotten, scalars_off, clea
 use Rattle.laws_marks.specs.ConflictExecutions.{Execution, AtEachExecution}
 use Rattle.laws_marks.proofs.ConflictEach.{plan_after}
 use Rattle.laws_marks.proofs.Apart.{FixedOff}
-use Rattle.laws_marks.proofs.Spots.{AllNamed, at_spots, meanings_in, program_in}
+use Rattle.laws_marks.proofs.Spots.{AllNamed, InModules, at_spots, meanings_in, program_in}
 use Rattle.laws_marks.proofs.Walk.{C, Each, EachMeaning, Wild, each_module}
 
 module _ (u : ℕ) (A : List ℕ → Type 0) where
@@ -40,7 +40,7 @@ module _ (u : ℕ) (A : List ℕ → Type 0) where
 
   module _ (turns : ℕ) (z : nat_eq 0 u ≡ false) where
     wild_meanings : (rs : List Routine) → Gone rs → (x : List ℕ) → Wild u A (meanings rs turns x)
-    wild_meanings rs g x = λ ps locked s i. at_spots (λ y. A y → ⊥) (C u A) no_claim (meanings rs turns x ps locked) (meanings_in (λ y. A y → ⊥) turns rs g x ps locked) s i
+    wild_meanings rs g x = λ ps locked s i. at_spots (InModules (λ y. A y → ⊥)) (C u A) no_claim (meanings rs turns x ps locked) (meanings_in (λ y. A y → ⊥) turns rs g x ps locked) s i
 
     -- what a module does, where the places of its variables are known
     module _ (r : Routine) (rs : List Routine) (tagged : IsTagged r) (fixed : FixedOff u r) (clear : (x : List ℕ) → MeaningCleared u (meanings rs turns x)) (well : (x : List ℕ) → EndsWell (meanings rs turns x)) (each : (x : List ℕ) → EachMeaning u A (meanings rs turns x))
@@ -103,7 +103,7 @@ module _ (u : ℕ) (A : List ℕ → Type 0) where
     each_program p none tagged t a w h n i = ⊎_elim gone on h
       where
         gone : Gone (p.main ∷ p.others) → AtEachExecution (C u A) (program_plan p turns) p.initial i
-        gone g = at_spots (λ y. A y → ⊥) (C u A) no_claim (program_plan p turns) (program_in (λ y. A y → ⊥) turns p g.0 g.1) p.initial i
+        gone g = at_spots (InModules (λ y. A y → ⊥)) (C u A) no_claim (program_plan p turns) (program_in (λ y. A y → ⊥) turns p g.0 g.1) p.initial i
 
         on : FixedOff u p.main × (((m k : ℕ) → nat_eq (p.main.own_unit m k) u ≡ false) ⊎ Gone p.others) × Reach p.others → AtEachExecution (C u A) (program_plan p turns) p.initial i
         on k =

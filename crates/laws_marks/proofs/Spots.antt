@@ -1,7 +1,7 @@
--- The modules whose statements a plan executes: a CALL executes those of the called module, and of modules that stand behind it.
+-- Where statements are executed in a plan, and where the variables of their modules lie there. A CALL executes statements of the called module, and of modules that stand behind it.
 use Rattle.std.proofs.Common.{ℕ, zero, suc, List, [], ◌∷◌, Option, Bool, true, false, ℤ, ◌+ℤ◌, bytes_eq}
 use Rattle.std.specs.Prelude.{if◌then◌else◌}
-use Rattle.f77_ast.specs.Trees.{StmtTree, WhatTree, ArmTree, ArmTrees, ElseTree, LoopTree, StmtTrees}
+use Rattle.f77_ast.specs.Trees.{ExprTrees, StmtTree, WhatTree, ArmTree, ArmTrees, ElseTree, LoopTree, StmtTrees}
 use Rattle.f77_ast.specs.Trees as tree
 use Rattle.f77_ast.specs.Store.{Int, Content, Store, content, put, undefined}
 use Rattle.f77_ast.specs.Faults.{Locked}
@@ -9,7 +9,7 @@ use Rattle.f77_ast.specs.Steps.{Spot, OutOfTurns, Steps}
 use Rattle.f77_ast.specs.Steps as steps
 use Rattle.f77_ast.specs.Numbers.{is_true, kept}
 use Rattle.f77_ast.specs.Runs.{first_of, rest_of}
-use Rattle.f77_ast.specs.Places.{Place, Places}
+use Rattle.f77_ast.specs.Places.{Names, Place, Places}
 use Rattle.f77_ast.specs.Values.{given, value, all_shown, name_target}
 use Rattle.f77_ast.specs.Writes.{Locks, no_locks, write, assigned, items_read, lock}
 use Rattle.f77_ast.specs.Plans.{Flow, Normal, Jump, Returned, Stopped, Plan, ◌▹◌, first, on_normal, steps_of}
@@ -18,14 +18,16 @@ use Rattle.f77_ast.specs.Executions.{run_of}
 use Rattle.f77_ast.specs.Lists.{Part, is_label, has_label, from_label, go_on, in_order, with_jumps, list_plan}
 use Rattle.f77_ast.specs.Loops.{range_of, iteration_count, iterations_from}
 use Rattle.f77_ast.specs.Calls.{actuals, places_of, own_units, lock_own, forget_all, after_call, scalars_bound, arrays_bound, lock_doubly}
-use Rattle.f77_ast.specs.Statements.{Scope, statement_plan, execution, arms_plan, arm_plan, else_plan, do_plan, parts, body_plan}
+use Rattle.f77_ast.specs.Statements.{Scope, spot, statement_plan, execution, arms_plan, arm_plan, else_plan, do_plan, parts, body_plan}
 use Rattle.f77_ast.specs.Programs.{Routine, Program, scope, body_of, called, meanings, program_plan}
 use Rattle.f77_ast.proofs.StepLaws.{leads_true}
 use Rattle.laws_analyses.proofs.Statements.Ends.{more}
+use Rattle.laws_interleavings.proofs.Plans.Fine.{Yields, yields_any}
+use Rattle.fx_lists.proofs.Every.{Anything}
 use Rattle.laws_marks.specs.ConflictExecutions.{Execution, AtEachExecution}
 
-module _ (B : List ℕ → Type 0) where
-  -- statements of such modules alone
+module _ (B : Spot → Places → Type 0) where
+  -- of each statement that is executed
   abbrev pub SpotsIn : Plan → Type 0
   SpotsIn (plan.Ends f) = Unit {0}
   SpotsIn (plan.Breaks b) = Unit {0}
@@ -35,10 +37,10 @@ module _ (B : List ℕ → Type 0) where
   SpotsIn (plan.Forget u t) = SpotsIn t
   SpotsIn (plan.Show xs t) = SpotsIn t
   SpotsIn (plan.Take k) = (o : Option Content) → SpotsIn (k o)
-  SpotsIn (plan.Within p at t k) = B p.module_name × SpotsIn t × ((f : Flow) → SpotsIn (k f))
+  SpotsIn (plan.Within p at t k) = B p at × SpotsIn t × ((f : Flow) → SpotsIn (k f))
 
-  -- then what holds of each execution in such a module holds of all in the plan
-  pub at_spots : (C : Execution → Type 0) → ((x : Execution) → B x.spot.module_name → C x) → (t : Plan) → SpotsIn t → (s : Store) (i : List Content) → AtEachExecution C t s i
+  -- then what holds of each such execution holds of all in the plan
+  pub at_spots : (C : Execution → Type 0) → ((x : Execution) → B x.spot x.places → C x) → (t : Plan) → SpotsIn t → (s : Store) (i : List Content) → AtEachExecution C t s i
   at_spots C m (plan.Ends f) h s i = tt
   at_spots C m (plan.Breaks b) h s i = tt
   at_spots C m (plan.Look u k) h s i = at_spots C m (k (s u)) (h (s u)) s i
@@ -75,15 +77,26 @@ module _ (B : List ℕ → Type 0) where
   spots_first (steps.Take k) f h = λ o. spots_first (k o) f h
   spots_first (steps.Arrive p t) f h = spots_first t f h
 
+  pub spots_with : {A : Type 0} (P : A → Type 0) (t : Steps A) (f : A → Plan) → Yields P t → ((a : A) → P a → SpotsIn (f a)) → SpotsIn (first t f)
+  spots_with P (steps.Done a) f y h = h a y
+  spots_with P (steps.Breaks b) f y h = tt
+  spots_with P (steps.Look u k) f y h = λ c. spots_with P (k c) f (y c) h
+  spots_with P (steps.Set u c t) f y h = spots_with P t f y h
+  spots_with P (steps.Hold u c t) f y h = spots_with P t f y h
+  spots_with P (steps.Forget u t) f y h = spots_with P t f y h
+  spots_with P (steps.Show xs t) f y h = spots_with P t f y h
+  spots_with P (steps.Take k) f y h = λ o. spots_with P (k o) f (y o) h
+  spots_with P (steps.Arrive p t) f y h = spots_with P t f y h
+
   spots_if : (b : Bool) (t z : Plan) → SpotsIn t → SpotsIn z → SpotsIn (if b then t else z)
   spots_if true t z h g = h
   spots_if false t z h g = g
 
-  spots_forget : (us : List ℕ) (t : Plan) → SpotsIn t → SpotsIn (forget_all us t)
+  pub spots_forget : (us : List ℕ) (t : Plan) → SpotsIn t → SpotsIn (forget_all us t)
   spots_forget [] t h = h
   spots_forget (u ∷ us) t h = spots_forget us t h
 
-  spots_after : (us : List ℕ) (f : Flow) → SpotsIn (after_call us f)
+  pub spots_after : (us : List ℕ) (f : Flow) → SpotsIn (after_call us f)
   spots_after us Normal = spots_forget us (plan.Ends Normal) tt
   spots_after us (Jump l) = tt
   spots_after us Returned = spots_forget us (plan.Ends Normal) tt
@@ -134,10 +147,12 @@ module _ (B : List ℕ → Type 0) where
 
   -- ---- statements
 
-  module _ (sc : Scope) (here : B sc.module_name) (callee : (x : List ℕ) (ps : List Place) (locked : Locks) → SpotsIn (sc.callee x ps locked)) (at : Places) where
+  -- what is called is called with such places
+  module _ (R : List Place → Type 0) (sc : Scope) (at : Places) (here : (n : ℕ) → B (spot sc.module_name n) at) (callee : (x : List ℕ) (ps : List Place) (locked : Locks) → R ps → SpotsIn (sc.callee x ps locked))
+      (passed : (n : ℕ) (es : ExprTrees) → Yields (λ xs. R (places_of xs)) (actuals es 0 sc.names at (sc.own_unit n))) where
     mutual
       stmt_in : (s : StmtTree) (locked : Locks) → SpotsIn (statement_plan s sc at locked)
-      stmt_in (tree.stmt n label w) locked = (here, what_in w n locked, λ f. tt)
+      stmt_in (tree.stmt n label w) locked = (here n, what_in w n locked, λ f. tt)
 
       what_in : (w : WhatTree) (n : ℕ) (locked : Locks) → SpotsIn (execution w n sc at locked)
       what_in (tree.assign a b) n locked = spots_first (assigned a b sc.names at locked) (λ o. plan.Ends Normal) (λ o. tt)
@@ -145,8 +160,8 @@ module _ (B : List ℕ → Type 0) where
       what_in (tree.logical_if test s) n locked = spots_first (value test sc.names at) _ (λ c. spots_if (is_true c.number) (statement_plan s sc at locked) (plan.Ends Normal) (stmt_in s locked) tt)
       what_in (tree.do_loop l) n locked = do_in l locked
       what_in (tree.call x es) n locked =
-          spots_first (actuals es 0 sc.names at (sc.own_unit n)) (λ xs. sc.callee x (places_of xs) (lock_own locked (own_units xs)) ▹ after_call (own_units xs))
-          (λ xs. spots_then (sc.callee x (places_of xs) (lock_own locked (own_units xs))) (after_call (own_units xs)) (callee x (places_of xs) (lock_own locked (own_units xs))) (spots_after (own_units xs)))
+          spots_with (λ xs. R (places_of xs)) (actuals es 0 sc.names at (sc.own_unit n)) (λ xs. sc.callee x (places_of xs) (lock_own locked (own_units xs)) ▹ after_call (own_units xs)) (passed n es)
+          (λ xs r. spots_then (sc.callee x (places_of xs) (lock_own locked (own_units xs))) (after_call (own_units xs)) (callee x (places_of xs) (lock_own locked (own_units xs)) r) (spots_after (own_units xs)))
       what_in (tree.goto l) n locked = tt
       what_in tree.continue n locked = tt
       what_in tree.return n locked = tt
@@ -174,10 +189,27 @@ module _ (B : List ℕ → Type 0) where
       parts_in tree.no_stmts locked = tt
       parts_in (tree.more_stmts s ss) locked = (stmt_in s locked, parts_in ss locked)
 
-    body_in : (ss : StmtTrees) (locked : Locks) → SpotsIn (body_plan ss sc at locked)
+    pub body_in : (ss : StmtTrees) (locked : Locks) → SpotsIn (body_plan ss sc at locked)
     body_in ss locked = list_in sc.turns (parts ss sc at locked) (parts_in ss locked)
 
-  -- ---- modules
+-- what holds of them may be weakened
+pub spots_more : (B C : Spot → Places → Type 0) → ((p : Spot) (at : Places) → B p at → C p at) → (t : Plan) → SpotsIn B t → SpotsIn C t
+spots_more B C m (plan.Ends f) h = tt
+spots_more B C m (plan.Breaks b) h = tt
+spots_more B C m (plan.Look u k) h = λ c. spots_more B C m (k c) (h c)
+spots_more B C m (plan.Set u c t) h = spots_more B C m t h
+spots_more B C m (plan.Hold u c t) h = spots_more B C m t h
+spots_more B C m (plan.Forget u t) h = spots_more B C m t h
+spots_more B C m (plan.Show xs t) h = spots_more B C m t h
+spots_more B C m (plan.Take k) h = λ o. spots_more B C m (k o) (h o)
+spots_more B C m (plan.Within p at t k) h = (m p at h.0, spots_more B C m t h.1, λ f. spots_more B C m (k f) (h.2 f))
+
+-- ---- modules
+
+module _ (B : List ℕ → Type 0) where
+  -- statements of such modules alone
+  abbrev pub InModules : Spot → Places → Type 0
+  InModules p at = B p.module_name
 
   -- the names of all of them are such
   abbrev pub AllNamed : List Routine → Type 0
@@ -185,29 +217,34 @@ module _ (B : List ℕ → Type 0) where
   AllNamed (r ∷ rs) = B r.name × AllNamed rs
 
   module _ (turns : ℕ) where
-    called_in : (r : Routine) (rs : List Routine) → B r.name → ((x : List ℕ) (ps : List Place) (locked : Locks) → SpotsIn (meanings rs turns x ps locked)) → (ps : List Place) (locked : Locks) → SpotsIn (called r turns (meanings rs turns) ps locked)
+    any_places : (es : ExprTrees) (w : Names) (at : Places) (own : ℕ → ℕ) → Yields (λ xs. Anything {A = List Place} (places_of xs)) (actuals es 0 w at own)
+    any_places es w at own = yields_any (actuals es 0 w at own)
+
+    statements_in : (r : Routine) (rs : List Routine) → B r.name → ((x : List ℕ) (ps : List Place) (locked : Locks) → SpotsIn InModules (meanings rs turns x ps locked)) → (at : Places) (locked : Locks) → SpotsIn InModules (body_plan r.body (scope r turns (meanings rs turns)) at locked)
+    statements_in r rs here callee at locked =
+        body_in InModules Anything (scope r turns (meanings rs turns)) at (λ n. here) (λ x ps l h. callee x ps l) (λ n es. any_places es r.names at (r.own_unit n)) r.body locked
+
+    called_in : (r : Routine) (rs : List Routine) → B r.name → ((x : List ℕ) (ps : List Place) (locked : Locks) → SpotsIn InModules (meanings rs turns x ps locked)) → (ps : List Place) (locked : Locks) → SpotsIn InModules (called r turns (meanings rs turns) ps locked)
     called_in r rs here callee ps locked =
-        let at = scalars_bound r.dummies ps r.fixed in
-        let sc = scope r turns (meanings rs turns) in (
+        let at = scalars_bound r.dummies ps r.fixed in (
           here,
-          spots_forget r.locals (body_of r turns (meanings rs turns) ps at locked)
-              (spots_first (arrays_bound r.dummies ps r.names at) (λ at'. body_plan r.body sc at' (lock_doubly locked r.dummies at' r.common)) (λ at'. body_in sc here callee at' r.body (lock_doubly locked r.dummies at' r.common))),
-          spots_after r.locals,
+          spots_forget InModules r.locals (body_of r turns (meanings rs turns) ps at locked)
+              (spots_first InModules (arrays_bound r.dummies ps r.names at) (λ at'. body_plan r.body (scope r turns (meanings rs turns)) at' (lock_doubly locked r.dummies at' r.common)) (λ at'. statements_in r rs here callee at' (lock_doubly locked r.dummies at' r.common))),
+          spots_after InModules r.locals,
         )
 
-    pub meanings_in : (rs : List Routine) → AllNamed rs → (x : List ℕ) (ps : List Place) (locked : Locks) → SpotsIn (meanings rs turns x ps locked)
+    pub meanings_in : (rs : List Routine) → AllNamed rs → (x : List ℕ) (ps : List Place) (locked : Locks) → SpotsIn InModules (meanings rs turns x ps locked)
     meanings_in [] h x ps locked = tt
     meanings_in (r ∷ rs) h x ps locked = go (bytes_eq x r.name) (meanings_in rs h.1)
       where
-        go : (b : Bool) → ((y : List ℕ) (qs : List Place) (l : Locks) → SpotsIn (meanings rs turns y qs l)) → SpotsIn ((if b then called r turns (meanings rs turns) else meanings rs turns x) ps locked)
+        go : (b : Bool) → ((y : List ℕ) (qs : List Place) (l : Locks) → SpotsIn InModules (meanings rs turns y qs l)) → SpotsIn InModules ((if b then called r turns (meanings rs turns) else meanings rs turns x) ps locked)
         go true ih = called_in r rs h.0 ih ps locked
         go false ih = ih x ps locked
 
-    pub program_in : (p : Program) → B p.main.name → AllNamed p.others → SpotsIn (program_plan p turns)
+    pub program_in : (p : Program) → B p.main.name → AllNamed p.others → SpotsIn InModules (program_plan p turns)
     program_in p here h =
-        let r = p.main in
-        let sc = scope r turns (meanings p.others turns) in (
+        let r = p.main in (
           here,
-          spots_first (arrays_bound r.dummies [] r.names r.fixed) (λ at'. body_plan r.body sc at' (lock_doubly no_locks r.dummies at' r.common)) (λ at'. body_in sc here (meanings_in p.others h) at' r.body (lock_doubly no_locks r.dummies at' r.common)),
+          spots_first InModules (arrays_bound r.dummies [] r.names r.fixed) (λ at'. body_plan r.body (scope r turns (meanings p.others turns)) at' (lock_doubly no_locks r.dummies at' r.common)) (λ at'. statements_in r p.others here (meanings_in p.others h) at' (lock_doubly no_locks r.dummies at' r.common)),
           λ f. tt,
         )

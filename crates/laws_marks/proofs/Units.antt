@@ -17,20 +17,22 @@ use Rattle.f77_ast.specs.Units.{units_in}
 use Rattle.f77_ast.specs.Shared.{symbol_at, share, share_maybe}
 use Rattle.call_graph.specs.declared.graph.Graph.{Graph}
 use Rattle.f77_meaning.specs.Areas.{Area, group, Numbering, unit_at, is_own_unit}
-use Rattle.f77_meaning.specs.Modules.{Known, known_of, is_function, meant_by, meant_at, meant_in, names, fixed_place, fixed_maybe, fixed, units_from, lost_units, all_lost}
+use Rattle.f77_meaning.specs.Modules.{Known, known_of, is_function, meant_by, meant_at, meant_in, names, fixed_place, fixed_maybe, fixed, dummies_from, units_from, lost_units, all_lost}
 use Rattle.f77_meaning.specs.Linked.{numbering, routine}
 use Rattle.f77_meaning.specs.Laws.{is_own, area_of, IsKnown}
 use Rattle.f77_meaning.proofs.ModuleLaws.{offsets_fit, variables_occupy_their_storage, shared_by_table}
 use Rattle.f77_meaning.proofs.UnitLaws.{temporaries_are_recognisable}
 use Rattle.laws_programs.specs.Programs.{IsProgram}
 use Rattle.laws_programs.specs.Storage.Programs.{IsModule, known}
+use Rattle.laws_programs.proofs.Storage.LocalLaws.{group_at}
 use Rattle.laws_programs.proofs.Storage.ModuleLaws.{declared, area_known}
+use Rattle.laws_interleavings.specs.Typed.{IsNoDummy}
 use Rattle.call_graph.specs.CallsIn.{Each}
 use Rattle.laws_analyses.proofs.Modules.{IsIn}
 use Rattle.laws_analyses.proofs.NameLaws.{name_number}
 use Rattle.laws_analyses.proofs.UnitLaws.{ModuleAt, module_at}
 use Rattle.laws_marks.specs.ConflictClaims.{IsSole}
-use Rattle.laws_marks.proofs.Apart.{linked, off_from, lost_of, lost_in, lost_some, lost_off}
+use Rattle.laws_marks.proofs.Apart.{linked, off_one, off_from, lost_of, lost_in, lost_some, lost_off, same_group}
 use Rattle.laws_marks.proofs.Order.{Named, Distinct}
 use Rattle.laws_marks.specs.Units.{IsPassing}
 use Rattle.laws_marks.specs.Loops.{IsOutside, AreOutside}
@@ -202,7 +204,77 @@ module _ (ps : List ParsedTree) (sss : List (List SymbolTree)) (g : Graph) (x : 
         differ : (y : List ℕ) → bytes_eq y k.read.name ≡ false → y ≡ k.read.name → ⊥
         differ y f e = true≢false (sym ((bytes_eq-Decides y k.read.name).1 e) ∙ f)
 
-  -- ---- a local whose name is that of an intrinsic function
+  -- ---- a local that no other variable overlaps
+
+  module _ (k : Known) (h : IsIn (known_of ps sss) k) (n : ℕ) (p : IsPassing k.symbols n) (sole : IsSole k.symbols (Own n)) (u : ℕ) (has : in_place (fixed (numbering (known_of ps sss) g) k n) u ≡ true) where
+    -- another symbol that has the unit overlaps it
+    overlaps : (v : ℕ) (s : SymbolTree) → symbol_at k.symbols v ≡ Some s → (n ≡ v → ⊥) → share k.symbols s p.symbol ≡ true → ⊥
+    overlaps v s e other q =
+        sole (Own v) (and_from (not (nat_eq v n)) (share_maybe k.symbols (symbol_at k.symbols v) (symbol_at k.symbols n)) (ap not (differ (nat_eq v n) refl)) (ap₂ (share_maybe k.symbols) e p.is_symbol ∙ q))
+      where
+        differ : (b : Bool) → nat_eq v n ≡ b → b ≡ false
+        differ true i = absurd (other (sym (eqb-true v n i)))
+        differ false i = refl
+
+    abbrev there_at : ModuleAt ps sss h.at k
+    there_at = module_at ps sss h.at k h.is_module
+
+    abbrev p_group : ℕ
+    p_group = group_of p.symbol.place
+
+    p_area : (w : List ℕ) → area_of w p.symbol.place ≡ Some (group w (group_of p.symbol.place))
+    p_area w = local_area w p.symbol.place p.local
+
+    p_there : symbol_at there_at.table n ≡ Some p.symbol
+    p_there = subst (λ ss. symbol_at ss n ≡ Some p.symbol) (sym (ap (λ (w : Known). w.symbols) there_at.same)) p.is_symbol
+
+    has_there : in_place (fixed N (known there_at.parsed there_at.table) n) u ≡ true
+    has_there = subst (λ (w : Known). in_place (fixed N w n) u ≡ true) (sym there_at.same) has
+
+    -- no name of another variable reaches the unit, but that of a dummy
+    pub others_off : (y : List ℕ) (v : ℕ) → names k.symbols y ≡ Variable v → (n ≡ v → ⊥) → IsNoDummy (dummies_from 1 k.symbols) v → (in_place (fixed (numbering (known_of ps sss) g) k v) u ≡ false) × (nat_eq (fixed (numbering (known_of ps sss) g) k v).first u ≡ false)
+    others_off y v e other none =
+        subst (λ (w : Known). (in_place (fixed N w v) u ≡ false) × (nat_eq (fixed N w v).first u ≡ false)) there_at.same
+        (off_one ps sss g x h.at there_at.parsed there_at.table there_at.is_module u y v (subst (λ ss. names ss y ≡ Variable v) (sym tables) e) (subst (λ ss. IsNoDummy (dummies_from 1 ss) v) (sym tables) none) free)
+      where
+        tables : there_at.table ≡ k.symbols
+        tables = ap (λ (w : Known). w.symbols) there_at.same
+
+        free : (s : SymbolTree) (a : Area) → symbol_at there_at.table v ≡ Some s → area_of there_at.parsed.module_read.name s.place ≡ Some a → in_place (fixed N (known there_at.parsed there_at.table) v) u ≡ true → ⊥
+        free s a f q z =
+            let symbol : symbol_at k.symbols v ≡ Some s = subst (λ ss. symbol_at ss v ≡ Some s) tables f in
+            overlaps v s symbol other
+            (shared_by_table (known_of ps sss) g k v n s p.symbol a (group k.read.name p_group) u (record { at = h.at; is_module = h.is_module; is_symbol = symbol }) (record { at = h.at; is_module = h.is_module; is_symbol = p.is_symbol })
+            (subst (λ (w : Known). area_of w.read.name s.place ≡ Some a) there_at.same q) (p_area k.read.name) (area_known ps sss g (linked ps sss g x) h.at there_at.parsed there_at.table there_at.is_module v s a f q)
+            (subst (λ (w : Known). IsKnown N (group w.read.name p_group)) there_at.same
+            (area_known ps sss g (linked ps sss g x) h.at there_at.parsed there_at.table there_at.is_module n p.symbol (group there_at.parsed.module_read.name p_group) p_there (p_area there_at.parsed.module_read.name)))
+            (subst (λ (w : Known). in_place (fixed N w v) u ≡ true) there_at.same z) has)
+
+    pub local_has : list_any (λ v. nat_eq v u) (routine (known_of ps sss) g k).locals ≡ true
+    local_has = lost_there N k.read.name k.symbols n p u has
+
+    -- it is the unit of no expression
+    pub no_expression : is_own_unit (numbering (known_of ps sss) g) u ≡ false
+    no_expression = named_own h.at there_at.parsed there_at.table there_at.is_module n p.symbol (group there_at.parsed.module_read.name p_group) u p_there (p_area there_at.parsed.module_read.name) has_there
+
+    -- nor of a local of another module
+    pub no_local : (z : Known) → IsIn (known_of ps sss) z → bytes_eq z.read.name k.read.name ≡ false → list_any (λ v. nat_eq v u) (routine (known_of ps sss) g z).locals ≡ false
+    no_local z i other = go (list_any (λ v. nat_eq v u) (of z).locals) refl
+      where
+        l : ModuleAt ps sss i.at z
+        l = module_at ps sss i.at z i.is_module
+
+        go : (b : Bool) → list_any (λ v. nat_eq v u) (of z).locals ≡ b → b ≡ false
+        go false e = refl
+        go true e =
+            let lost = subst (λ (y : Known). list_any (λ v. nat_eq v u) (of y).locals ≡ true) (sym l.same) e in
+            let o = lost_of ps sss g x i.at l.parsed l.table l.is_module u lost in
+            let one : group o.parsed.module_read.name o.storage ≡ group there_at.parsed.module_read.name p_group = same_group ps sss g x u o h.at there_at.parsed there_at.table there_at.is_module n p.symbol (group there_at.parsed.module_read.name p_group) p_there (p_area there_at.parsed.module_read.name) has_there in
+            let lies : there_at.parsed.module_read.name ≡ o.parsed.module_read.name = group_at there_at.parsed.module_read.name o.parsed.module_read.name o.storage p.symbol.place (p_area there_at.parsed.module_read.name ∙ ap Some (sym one)) in
+            let name : z.read.name ≡ k.read.name = sym (ap (λ (q : ParsedTree). q.module_read.name) (lost_in ps sss g x i.at l.parsed l.table l.is_module u lost) ∙ ap (λ (y : Known). y.read.name) l.same) ∙ (sym lies ∙ ap (λ (y : Known). y.read.name) there_at.same) in
+            absurd (true≢false (sym ((bytes_eq-Decides z.read.name k.read.name).1 name) ∙ other))
+
+  -- ---- such a local whose name is that of an intrinsic function
 
   -- no name stands for it
   module _ (k : Known) (h : IsIn (known_of ps sss) k) (n : ℕ) (p : IsPassing k.symbols n) (function : is_function p.symbol ≡ true) (sole : IsSole k.symbols (Own n)) (u : ℕ) (has : in_place (fixed (numbering (known_of ps sss) g) k n) u ≡ true) where
@@ -216,39 +288,8 @@ module _ (ps : List ParsedTree) (sss : List (List SymbolTree)) (g : Graph) (x : 
         variable_function : (v : ℕ) → Variable v ≡ Function → ⊥
         variable_function v e = cc
 
-    -- another symbol that has the unit overlaps it
-    overlaps : (v : ℕ) (s : SymbolTree) → symbol_at k.symbols v ≡ Some s → (n ≡ v → ⊥) → share k.symbols s p.symbol ≡ true → ⊥
-    overlaps v s e other q =
-        sole (Own v) (and_from (not (nat_eq v n)) (share_maybe k.symbols (symbol_at k.symbols v) (symbol_at k.symbols n)) (ap not (differ (nat_eq v n) refl)) (ap₂ (share_maybe k.symbols) e p.is_symbol ∙ q))
-      where
-        differ : (b : Bool) → nat_eq v n ≡ b → b ≡ false
-        differ true i = absurd (other (sym (eqb-true v n i)))
-        differ false i = refl
-
-    m' : ModuleAt ps sss h.at k
-    m' = module_at ps sss h.at k h.is_module
-
     pub nameless_outside : IsOutside u (routine (known_of ps sss) g k)
-    nameless_outside = subst (λ (y : Known). IsOutside u (of y)) m'.same (off_from ps sss g x h.at m'.parsed m'.table m'.is_module u free)
-      where
-        free : (y : List ℕ) (v : ℕ) (s : SymbolTree) (a : Area) → names m'.table y ≡ Variable v → symbol_at m'.table v ≡ Some s → area_of m'.parsed.module_read.name s.place ≡ Some a → in_place (fixed N (known m'.parsed m'.table) v) u ≡ true → ⊥
-        free y v s a e f q z =
-            let tables : m'.table ≡ k.symbols = ap (λ (w : Known). w.symbols) m'.same in
-            let symbol : symbol_at k.symbols v ≡ Some s = subst (λ ss. symbol_at ss v ≡ Some s) tables f in
-            overlaps v s symbol (not_it y v (subst (λ ss. names ss y ≡ Variable v) tables e))
-            (shared_by_table (known_of ps sss) g k v n s p.symbol a (group k.read.name p_group) u (record { at = h.at; is_module = h.is_module; is_symbol = symbol }) (record { at = h.at; is_module = h.is_module; is_symbol = p.is_symbol })
-            (subst (λ (w : Known). area_of w.read.name s.place ≡ Some a) m'.same q) p_area (area_known ps sss g (linked ps sss g x) h.at m'.parsed m'.table m'.is_module v s a f q)
-            (subst (λ (w : Known). IsKnown N (group w.read.name p_group)) m'.same (area_known ps sss g (linked ps sss g x) h.at m'.parsed m'.table m'.is_module n p.symbol (group m'.parsed.module_read.name p_group) (subst (λ ss. symbol_at ss n ≡ Some p.symbol) (sym tables) p.is_symbol) (area_in m'.parsed.module_read.name)))
-            (subst (λ (w : Known). in_place (fixed N w v) u ≡ true) m'.same z) has)
-          where
-            p_group : ℕ
-            p_group = group_of p.symbol.place
-
-            area_in : (w : List ℕ) → area_of w p.symbol.place ≡ Some (group w (group_of p.symbol.place))
-            area_in w = local_area w p.symbol.place p.local
-
-            p_area : area_of k.read.name p.symbol.place ≡ Some (group k.read.name (group_of p.symbol.place))
-            p_area = area_in k.read.name
+    nameless_outside y v e none = others_off k h n p sole u has y v e (not_it y v e) none
 
     pub nameless_local : list_any (λ v. nat_eq v u) (routine (known_of ps sss) g k).locals ≡ true
-    nameless_local = lost_there N k.read.name k.symbols n p u has
+    nameless_local = local_has k h n p sole u has

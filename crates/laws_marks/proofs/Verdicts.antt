@@ -1,16 +1,14 @@
--- What a mark says of a DO that is parallel.
-use Rattle.std.proofs.Common.{◌≡◌, ◌⊎◌, inl, inr, ℕ, ◌<◌, ◌||◌, Bool, true, false, List, [], ◌∷◌, ◌++◌, Option, Some, None, refl, sym, ap, ◌∙◌, subst, true≢false}
-use Rattle.std.specs.Prelude.{if◌then◌else◌, not, is_some}
+-- What stands against a DO in its variables, and of which of them iterations have copies.
+use Rattle.std.proofs.Common.{◌≡◌, inl, inr, ℕ, ◌||◌, Bool, true, false, List, [], ◌∷◌, ◌++◌, Option, Some, None, refl, sym, ap, subst, true≢false}
+use Rattle.std.specs.Prelude.{if◌then◌else◌, is_some}
 use Rattle.std.specs.declared.cmp.Ordering.{Ordering}
 use Rattle.std.specs.declared.cmp.Ordering.TheVariants.{Less, Equal, Greater}
-use Rattle.std.specs.Ordering.{nat_cmp, is_eq, match_ordering, MatchOrdering}
-use Rattle.std.specs.Cmp.{ranks}
-use Rattle.std.proofs.lemmas.Bool.{or_parts, not-false}
+use Rattle.std.specs.Ordering.{is_eq, match_ordering}
 use Rattle.affine_systems.specs.declared.row.System.{System}
-use Rattle.f77_ast.specs.Trees.{StmtTree, WhatTree, ArmTree, ArmTrees, ElseTree, LoopTree, StmtTrees}
+use Rattle.f77_ast.specs.Trees.{StmtTree, WhatTree, ArmTrees, ElseTree, LoopTree, StmtTrees}
 use Rattle.f77_ast.specs.Trees as tree
 use Rattle.f77_ast.specs.DeclTrees.{ModuleTree}
-use Rattle.f77_ast.specs.Shapes.{walk_stmt, walk_what, walk_body, walk_arms, walk_arm, walk_else, walk_list}
+use Rattle.f77_ast.specs.Shapes.{walk_stmt, walk_what, walk_body, walk_arms, walk_else, walk_list}
 use Rattle.f77_ast.specs.Symbols.{SymbolTree, number_from}
 use Rattle.f77_ast.specs.declared.variable.Variable.{Variable as Named}
 use Rattle.f77_ast.specs.declared.variable.Variable.TheVariants.{Own, Block, Saved}
@@ -18,35 +16,28 @@ use Rattle.f77_ast.specs.Variables.{variable_cmp, merged, union, same_variable}
 use Rattle.preconditions.specs.transformer_algebra.Laws.{In, here, there}
 use Rattle.f77_ast.specs.declared.marks.Kinds.{Kinds}
 use Rattle.f77_ast.specs.declared.marks.Kinds.TheVariants.{WriteRead, ReadWrite, WriteWrite}
-use Rattle.f77_ast.specs.declared.marks.Mark.{Mark}
-use Rattle.f77_ast.specs.declared.marks.Mark.TheVariants.{Parallel, Serial}
 use Rattle.f77_ast.specs.declared.marks.Private.{Private}
 use Rattle.f77_ast.specs.declared.marks.Private.TheVariants.{Yes, Name, Carried, Live}
-use Rattle.f77_ast.specs.declared.marks.Reason.{Reason}
 use Rattle.in_out_regions.specs.region_sets.declared.region.Access.{Access}
 use Rattle.in_out_regions.specs.region_sets.declared.region.Access.TheVariants.{Write}
 use Rattle.in_out_regions.specs.region_sets.declared.region.Region.{Region}
 use Rattle.loop_marker.specs.dependence_test.declared.body.LoopBody.{LoopBody}
 use Rattle.loop_marker.specs.dependence_test.Conflicts.{kept_system}
 use Rattle.loop_marker.specs.privatizer.Functions.{own_functions}
-use Rattle.loop_marker.specs.privatizer.Names.{may_copy}
-use Rattle.loop_marker.specs.privatizer.Private.{is_carried, is_live, private_by, private_in}
+use Rattle.loop_marker.specs.privatizer.Private.{private_in}
 use Rattle.loop_marker.specs.privatizer.Uses.{Uses}
-use Rattle.loop_marker.specs.out_regions.Leaving.{leaves}
-use Rattle.loop_marker.specs.declared.verdict.Verdict.{Verdict}
-use Rattle.loop_marker.specs.declared.verdict.Verdict.TheVariants.{Free, Copied, Bad}
-use Rattle.loop_marker.specs.Jumps.{is_jumped_to, may_stop, may_jump, may_have_io, body_of}
-use Rattle.loop_marker.specs.Marks.{Knowledge, is_in_bounds, is_other_result, index_is_bad, with_kind, keeps, kept_kinds, or_of_index, kinds_of, unless_named, copy_answer, with_own, by_answer, by_kinds, verdict_of, by_verdict, marked, by_variables, has_step, by_index, by_step, by_io, mark_of}
-use Rattle.loop_marker.specs.Variables.{own_variable, index_of, the_indexes, in_order_with, indexes_in, with_names, inner_in, is_write, written_in, is_among, is_of_some}
+use Rattle.loop_marker.specs.declared.verdict.Verdict.TheVariants.{Free, Copied}
+use Rattle.loop_marker.specs.Jumps.{body_of}
+use Rattle.loop_marker.specs.Marks.{Knowledge, is_in_bounds, is_other_result, with_kind, keeps, kept_kinds, or_of_index, kinds_of, unless_named, copy_answer, by_kinds, verdict_of}
+use Rattle.loop_marker.specs.Variables.{own_variable, index_of, the_indexes, in_order_with, indexes_in, with_names, inner_in, is_write, written_in, is_among}
 use Rattle.call_graph.specs.CallsIn.{Each}
-use Rattle.laws_marks.specs.Verdicts.{IsOneOf, IsCleared, SaysParallel}
-use Rattle.laws_marks.proofs.Dead.{copy_of as yes_copy}
-use Rattle.laws_marks.proofs.Marks.{copied_yes, unnamed_yes, names_copied, serial_no, unless, only_if}
 use Rattle.f77_ast.proofs.SameLaws.{same_itself}
 use Rattle.fx_lists.proofs.Booleans.{or_neither, or_there}
-use Rattle.fx_lists.proofs.Orders.{at_equal, same_numbers}
-use Rattle.preconditions.proofs.TransformerAlgebra.Members.{in_left, in_right}
+use Rattle.fx_lists.proofs.Orders.{same_numbers}
 use Rattle.call_graph.proofs.EachLaws.{each_joined}
+use Rattle.result_lines.specs.declared.reduction.Reduction.{Reduction}
+use Rattle.laws_marks.specs.Verdicts.{IsCleared}
+use Rattle.laws_marks.proofs.Marks.{copied_yes, unnamed_yes}
 
 -- ---- variables
 
@@ -99,7 +90,7 @@ module _ (x v : Named) (symbol : IsSymbol v) (others : List Named → List Named
       go Equal e ih = in_place w ws e i
       go Greater e ih = behind w ws (merged v others ws) ih i
 
-in_union : (x : Named) (vs ws : List Named) → Each IsSymbol vs → In x ws → In x (union vs ws)
+pub in_union : (x : Named) (vs ws : List Named) → Each IsSymbol vs → In x ws → In x (union vs ws)
 in_union x [] ws s i = i
 in_union x (v ∷ vs) ws s i = in_merged x v s.0 (union vs) (λ zs j. in_union x vs zs s.1 j) ws i
 
@@ -126,7 +117,7 @@ merged_left x v vs others h (w ∷ ws) i = go (variable_cmp v w) (merged_left x 
     go Equal ih = first_kept x v vs (others ws) (h ws) i
     go Greater ih = there ih
 
-in_first : (x : Named) (vs ws : List Named) → In x vs → In x (union vs ws)
+pub in_first : (x : Named) (vs ws : List Named) → In x vs → In x (union vs ws)
 in_first x [] ws i = elim i [ ]
 in_first x (v ∷ vs) ws i = merged_left x v vs (union vs) (λ zs j. in_first x vs zs j) ws i
 
@@ -201,10 +192,10 @@ name_there names n so_far (x ∷ xs) s y (there i) e =
     let own = own_variable (number_from 1 names x) in
     name_there names n (union so_far own) xs (union_symbols so_far own s (own_symbol (number_from 1 names x))) y i e
 
-inner_symbols : (names : List (List ℕ)) (m : ModuleTree) (l : LoopTree) → Each IsSymbol (inner_in names m l)
+pub inner_symbols : (names : List (List ℕ)) (m : ModuleTree) (l : LoopTree) → Each IsSymbol (inner_in names m l)
 inner_symbols names m l = names_symbols names (indexes_in names (body_of l)) (own_functions m (body_of l)) (indexes_symbols names (body_of l))
 
-function_inner : (names : List (List ℕ)) (m : ModuleTree) (l : LoopTree) (y : List ℕ) → In y (own_functions m (body_of l)) → (n : ℕ) → number_from 1 names y ≡ Some n → In (Own n) (inner_in names m l)
+pub function_inner : (names : List (List ℕ)) (m : ModuleTree) (l : LoopTree) (y : List ℕ) → In y (own_functions m (body_of l)) → (n : ℕ) → number_from 1 names y ≡ Some n → In (Own n) (inner_in names m l)
 function_inner names m l y i n e = name_there names n (indexes_in names (body_of l)) (own_functions m (body_of l)) (indexes_symbols names (body_of l)) y i e
 
 is_there : (v : Named) (vs : List Named) → In v vs → is_among vs v ≡ true
@@ -217,7 +208,7 @@ is_there v (w ∷ ws) (there i) = or_there (same_variable v w) (is_among ws v) (
 write_kind : (a : Access) → a ≡ Write → is_write a ≡ true
 write_kind a e = subst (λ z. is_write z ≡ true) (sym e) refl
 
-in_written : (rs : List Region) (r : Region) → In r rs → r.kind ≡ Write → In r.variable (written_in rs)
+pub in_written : (rs : List Region) (r : Region) → In r rs → r.kind ≡ Write → In r.variable (written_in rs)
 in_written [] r i e = elim i [ ]
 in_written (q ∷ rs) r here e = subst (λ b. In r.variable (if b then r.variable ∷ written_in rs else written_in rs)) (sym (write_kind r.kind e)) here
 in_written (q ∷ rs) r (there i) e = go (is_write q.kind) (in_written rs r i e)
@@ -250,7 +241,7 @@ unnamed_no true Name e = cc
 unnamed_no true Carried e = cc
 unnamed_no true Live e = cc
 
-own_number : (n m : ℕ) → Own n ≡ Own m → n ≡ m
+pub own_number : (n m : ℕ) → Own n ≡ Own m → n ≡ m
 own_number n m e = cc
 
 with_none : (kept : Bool) (k : Kinds) (ks : List Kinds) → with_kind kept k ks ≡ [] → (kept ≡ false) × (ks ≡ [])
@@ -286,15 +277,15 @@ module _ (k : Knowledge) (b : LoopBody) (u : Uses) (l : LoopTree) (inner : List 
       go true q = cc
       go false q = q
 
-  copied_private : (v : Named) → verdict_of k b u l inner v ≡ Copied → private_in k.tree k.symbols u v ≡ Yes
+  pub copied_private : (v : Named) → verdict_of k b u l inner v ≡ Copied → private_in k.tree k.symbols u v ≡ Yes
   copied_private v e = unnamed_yes (is_in_bounds k.symbols l v || is_other_result k.tree k.symbols l v) (private_in k.tree k.symbols u v) (copied_answer v e)
 
   -- no function of which the module takes a value, but not the body
-  copied_other : (v : Named) → verdict_of k b u l inner v ≡ Copied → is_other_result k.tree k.symbols l v ≡ false
+  pub copied_other : (v : Named) → verdict_of k b u l inner v ≡ Copied → is_other_result k.tree k.symbols l v ≡ false
   copied_other v e = (or_neither (is_in_bounds k.symbols l v) (is_other_result k.tree k.symbols l v) (unnamed_no (is_in_bounds k.symbols l v || is_other_result k.tree k.symbols l v) (private_in k.tree k.symbols u v) (copied_answer v e))).1
 
   -- a symbol of which each iteration has its own is free only as the variable of the DO
-  free_index : (n : ℕ) → In (Own n) inner → verdict_of k b u l inner (Own n) ≡ Free → n ≡ b.index
+  pub free_index : (n : ℕ) → In (Own n) inner → verdict_of k b u l inner (Own n) ≡ Free → n ≡ b.index
   free_index n i e = go (same_variable (Own n) (Own b.index)) refl e
     where
       go : (c : Bool) → same_variable (Own n) (Own b.index) ≡ c → (if c then Free else by_kinds (kinds_of k.symbols b inner (Own n)) (copy_answer k u l (Own n))) ≡ Free → n ≡ b.index
@@ -303,99 +294,13 @@ module _ (k : Knowledge) (b : LoopBody) (u : Uses) (l : LoopTree) (inner : List 
           absurd (never_none (kept_kinds k.symbols b (Own n))
           (subst (λ c. or_of_index c (kept_kinds k.symbols b (Own n)) ≡ []) (is_there (Own n) inner i) (free_none (kinds_of k.symbols b inner (Own n)) (copy_answer k u l (Own n)) q)))
 
-  free_so : (ns : List ℕ) (v : Named) → verdict_of k b u l inner v ≡ Free → IsCleared k.tree k.symbols b ns v
-  free_so ns v e = go (same_variable v (Own b.index)) refl e
+  pub free_so : (r : Reduction) (v : Named) → verdict_of k b u l inner v ≡ Free → IsCleared k.tree k.symbols b r v
+  free_so r v e = go (same_variable v (Own b.index)) refl e
     where
-      go : (c : Bool) → same_variable v (Own b.index) ≡ c → (if c then Free else by_kinds (kinds_of k.symbols b inner v) (copy_answer k u l v)) ≡ Free → IsCleared k.tree k.symbols b ns v
+      go : (c : Bool) → same_variable v (Own b.index) ≡ c → (if c then Free else by_kinds (kinds_of k.symbols b inner v) (copy_answer k u l v)) ≡ Free → IsCleared k.tree k.symbols b r v
       go true w q = inl (same_own b.index v w)
       go false w q = inr (inl (none_kept k.symbols b v (none_of_index (is_among inner v) (kept_kinds k.symbols b v) (free_none (kinds_of k.symbols b inner v) (copy_answer k u l v) q))))
 
--- ---- marks
-
-kept_own : (so_far : List ℕ) (v : Named) (m : ℕ) → In m so_far → In m (with_own so_far v)
-kept_own so_far (Own n) m i = in_left m so_far (n ∷ []) i
-kept_own so_far (Block x) m i = i
-kept_own so_far (Saved x y) m i = i
-
-new_own : (so_far : List ℕ) (n : ℕ) → In n (with_own so_far (Own n))
-new_own so_far n = in_right n so_far (n ∷ []) here
-
--- a symbol is one of these
-abbrev OwnIn : List ℕ → Named → Type 0
-OwnIn ms (Own n) = In n ms
-OwnIn ms (Block b) = Unit {0}
-OwnIn ms (Saved s x) = Unit {0}
-
-parallel_same : (ns ms : List ℕ) → Parallel ns ≡ Parallel ms → ns ≡ ms
-parallel_same ns ms e = cc
-
-module _ (f : Named → Verdict) where
-  -- what is copied so far
-  stay : (vs : List Named) (so_far ms : List ℕ) → marked f so_far vs ≡ Parallel ms → (m : ℕ) → In m so_far → In m ms
-  stay [] so_far ms e m i = subst (λ zs. In m zs) (parallel_same so_far ms e) i
-  stay (v ∷ vs) so_far ms e m i = go (f v) e (λ q. stay vs so_far ms q m i) (λ q. stay vs (with_own so_far v) ms q m (kept_own so_far v m i))
-    where
-      go : (w : Verdict) → by_verdict v (marked f so_far vs) (marked f (with_own so_far v) vs) w ≡ Parallel ms → (marked f so_far vs ≡ Parallel ms → In m ms) → (marked f (with_own so_far v) vs ≡ Parallel ms → In m ms) → In m ms
-      go Free q next copied = next q
-      go Copied q next copied = copied q
-      go (Bad ks p) q next copied = absurd (serial_no _ ms q)
-
-  abbrev Said : List ℕ → Named → Type 0
-  Said ms v = (f v ≡ Free) ⊎ ((f v ≡ Copied) × OwnIn ms v)
-
-  first_said : (v : Named) (vs : List Named) (so_far ms : List ℕ) (w : Verdict) → f v ≡ w → by_verdict v (marked f so_far vs) (marked f (with_own so_far v) vs) w ≡ Parallel ms → Said ms v
-  first_said v vs so_far ms Free e q = inl e
-  first_said (Own n) vs so_far ms Copied e q = inr (e, stay vs (with_own so_far (Own n)) ms q n (new_own so_far n))
-  first_said (Block b) vs so_far ms Copied e q = inr (e, tt)
-  first_said (Saved s x) vs so_far ms Copied e q = inr (e, tt)
-  first_said v vs so_far ms (Bad ks p) e q = absurd (serial_no _ ms q)
-
-  said : (vs : List Named) (so_far ms : List ℕ) → marked f so_far vs ≡ Parallel ms → (v : Named) → In v vs → Said ms v
-  said [] so_far ms e v i = elim i [ ]
-  said (w ∷ vs) so_far ms e v here = first_said v vs so_far ms (f v) refl e
-  said (w ∷ vs) so_far ms e v (there i) = go (f w) e (λ q. said vs so_far ms q v i) (λ q. said vs (with_own so_far w) ms q v i)
-    where
-      go : (z : Verdict) → by_verdict w (marked f so_far vs) (marked f (with_own so_far w) vs) z ≡ Parallel ms → (marked f so_far vs ≡ Parallel ms → Said ms v) → (marked f (with_own so_far w) vs ≡ Parallel ms → Said ms v) → Said ms v
-      go Free q next copied = next q
-      go Copied q next copied = copied q
-      go (Bad ks p) q next copied = absurd (serial_no _ ms q)
-
--- ---- the mark of a DO
-
-one_of : (k : Knowledge) (u : Uses) (ns : List ℕ) (v : Named) → private_in k.tree k.symbols u v ≡ Yes → OwnIn ns v → IsOneOf k.tree k.symbols ns v
-one_of k u ns (Own n) s i = record { number = n; is = refl; one = i; may = yes_copy (may_copy k.tree k.symbols (Own n)) (is_carried u (Own n)) (is_live u (Own n)) s }
-one_of k u ns (Block b) s i = cc
-one_of k u ns (Saved t x) s i = cc
-
-pub says_parallel : (k : Knowledge) (n : ℕ) (label : Option ℕ) (l : LoopTree) (ns : List ℕ) → mark_of k n label l ≡ Parallel ns → SaysParallel k n l ns
-says_parallel k n label l ns e =
-    let b = k.body l in
-    let u = k.uses n l in
-    let inner = inner_in k.names k.tree l in
-    let a = unless (may_jump k.tree.body k.effects label l) _ (by_io k n l) ns e in
-    let jump = or_parts (is_jumped_to k.tree.body label) (leaves false (body_of l) || may_stop k.effects (body_of l)) a.0 in
-    let leave = or_parts (leaves false (body_of l)) (may_stop k.effects (body_of l)) jump.1 in
-    let c = unless (may_have_io k.effects (body_of l)) _ (by_step k b u l inner) ns a.1 in
-    let d = only_if (has_step b) _ (by_index k b u l inner) ns c.1 in
-    let i = unless (index_is_bad k b u l) _ (by_variables k b u l inner) ns d in
-    let o = or_parts (not (may_copy k.tree k.symbols (Own b.index))) (is_of_some (Own b.index) u.outs || is_in_bounds k.symbols l (Own b.index)) i.0 in
-    record {
-      stays = leave.0;
-      no_stop = leave.1;
-      no_io = c.0;
-      index = not-false (may_copy k.tree k.symbols (Own b.index)) o.0;
-      verdicts = λ r j w. so r.variable (said (verdict_of k b u l inner) (union inner (written_in b.regions)) [] ns i.1 r.variable (in_union r.variable inner (written_in b.regions) (inner_symbols k.names k.tree l) (in_written b.regions r j w)));
-      taken = λ y j v q. (let own = function_inner k.names k.tree l y j v q in of_own v own (said (verdict_of k b u l inner) (union inner (written_in b.regions)) [] ns i.1 (Own v) (in_first (Own v) inner (written_in b.regions) own)));
-      others = names_copied (verdict_of k b u l inner) (λ v. is_other_result k.tree k.symbols l (Own v) ≡ false) (λ v q. copied_other k b u l inner (Own v) q) (union inner (written_in b.regions)) [] ns none i.1;
-    }
-  where
-    so : (v : Named) → Said (verdict_of k (k.body l) (k.uses n l) l (inner_in k.names k.tree l)) ns v → IsCleared k.tree k.symbols (k.body l) ns v
-    so v (inl q) = free_so k (k.body l) (k.uses n l) l (inner_in k.names k.tree l) ns v q
-    so v (inr q) = inr (inr (one_of k (k.uses n l) ns v (copied_private k (k.body l) (k.uses n l) l (inner_in k.names k.tree l) v q.0) q.1))
-
-    of_own : (v : ℕ) → In (Own v) (inner_in k.names k.tree l) → Said (verdict_of k (k.body l) (k.uses n l) l (inner_in k.names k.tree l)) ns (Own v) → In v ns ⊎ (v ≡ (k.body l).index)
-    of_own v j (inl q) = inr (free_index k (k.body l) (k.uses n l) l (inner_in k.names k.tree l) v j q)
-    of_own v j (inr q) = inl q.1
-
-    none : (v : ℕ) → In v [] → is_other_result k.tree k.symbols l (Own v) ≡ false
-    none v j = elim j [ ]
+  -- the variable of the DO is free
+  pub index_free : verdict_of k b u l inner (Own b.index) ≡ Free
+  index_free = ap (λ c. if c then Free else by_kinds (kinds_of k.symbols b inner (Own b.index)) (copy_answer k u l (Own b.index))) (same_itself (Own b.index))

@@ -39,7 +39,7 @@ number_there (x ∷ xs) (suc k) n s d e =
     one_more : (n k : ℕ) → suc n + k ≡ n + suc k
     one_more n k = omega arith
 
-name_back : (ss : List SymbolTree) (n : ℕ) (s : SymbolTree) → IsDistinct bytes_eq (symbol_names ss) → symbol_at ss n ≡ Some s → number_from 1 (symbol_names ss) (name_at (symbol_names ss) n) ≡ Some n
+pub name_back : (ss : List SymbolTree) (n : ℕ) (s : SymbolTree) → IsDistinct bytes_eq (symbol_names ss) → symbol_at ss n ≡ Some s → number_from 1 (symbol_names ss) (name_at (symbol_names ss) n) ≡ Some n
 name_back ss zero s d e = cc
 name_back ss (suc k) s d e = number_there ss k 1 s d (ap (slice_get ss) (one_less k) ∙ numbered_place ss (suc k) s e) ∙ ap Some (one_more k)
   where

@@ -1,5 +1,5 @@
 -- Programs that are read, with the directives that are found: their runs by schedules.
-use Rattle.std.specs.Prelude.{ℕ, List, []}
+use Rattle.std.specs.Prelude.{ℕ, Bool, List, []}
 use Rattle.f77_ast.specs.DeclTrees.{ParsedTree}
 use Rattle.f77_ast.specs.Store.{Content}
 use Rattle.f77_ast.specs.Programs.{Program, program_run, EndsRun}
@@ -12,12 +12,12 @@ use Rattle.laws_programs.specs.Programs.{IsProgram}
 use Rattle.laws_interleavings.specs.Holds.{MarksHold}
 use Rattle.laws_interleavings.specs.MarkedPrograms.{Directives, marked_program}
 use Rattle.laws_marks.specs.DeadLaws.{outs_of}
-use Rattle.laws_marks.specs.Directives.{AreOfMarks}
+use Rattle.laws_marks.specs.Directives.{AreFound}
 use Rattle.laws_marks.specs.Schedules.{DoesAs}
 
--- of programs that are read, with directives of which each is a mark that was found
+-- of programs that are read, with directives of which each says what was found, with reduction variables or without
 abbrev pub OfMarkedPrograms : (Program → Directives → Type 0) → Type 0
-OfMarkedPrograms C = (ps : List ParsedTree) (sss : List (List SymbolTree)) (g : Graph) → IsProgram ps sss g → (d : Directives) → AreOfMarks (all_marks g (outs_of ps sss g)) d → C (program_of (known_of ps sss) g) d
+OfMarkedPrograms C = (ps : List ParsedTree) (sss : List (List SymbolTree)) (g : Graph) → IsProgram ps sss g → (reductions : Bool) (d : Directives) → AreFound g reductions (all_marks g (outs_of ps sss g)) d → C (program_of (known_of ps sss) g) d
 
 -- what is claimed of marked loops holds along each run that comes to its end without a fault
 abbrev pub MarksHoldInProgram : Program → Directives → Type 0
@@ -26,6 +26,6 @@ MarksHoldInProgram p d = (turns : ℕ) (input : List Content) → EndsRun (progr
 abbrev pub ReadMarksHold : Type 0
 ReadMarksHold = OfMarkedPrograms MarksHoldInProgram
 
--- a program that is read, with directives of which each is a mark that was found, does so itself
+-- a program that is read, with directives of which each says what was found, does so itself
 abbrev pub ReadRunsAsPlain : Type 0
 ReadRunsAsPlain = OfMarkedPrograms (λ p d. DoesAs p p d)

@@ -1,5 +1,5 @@
 -- Variables of a DO of which the rest of a run reads nothing that the DO wrote.
-use Rattle.std.specs.Prelude.{◌≡◌, ℕ, ℤ, true, false, List, Some}
+use Rattle.std.specs.Prelude.{◌≡◌, ℕ, ℤ, Bool, true, false, List, Some}
 use Rattle.f77_ast.specs.Trees.{LoopTree}
 use Rattle.f77_ast.specs.Trees as tree
 use Rattle.f77_ast.specs.Places.{Variable}
@@ -15,8 +15,6 @@ use Rattle.affine_forms.specs.Scalars.{is_cell}
 use Rattle.affine_forms.specs.Claims.{unit_in}
 use Rattle.preconditions.specs.transformer_algebra.Laws.{In}
 use Rattle.preconditions.specs.call_translation.Scopes.{ScopeTree}
-use Rattle.preconditions.specs.transformers.Lists.{value_at}
-use Rattle.f77_ast.specs.declared.marks.Mark.TheVariants.{Parallel}
 use Rattle.f77_ast.specs.declared.marks.Private.TheVariants.{Yes}
 use Rattle.in_out_regions.specs.region_sets.declared.region.Access.TheVariants.{Out}
 use Rattle.in_out_regions.specs.region_sets.declared.region.Region.{Region}
@@ -30,6 +28,8 @@ use Rattle.loop_marker.specs.privatizer.Private.{private_in}
 use Rattle.laws_analyses.specs.Regions.Claims.{as_region}
 use Rattle.laws_analyses.specs.Regions.Settings.{elements_with}
 use Rattle.in_out_regions.specs.region_sets.Lists.{set_at}
+use Rattle.result_lines.specs.declared.reduction.Reduction.{Reduction}
+use Rattle.laws_marks.specs.Said.{said_at}
 
 -- no unit of the variable that the execution writes is read by the rest of the run before it is written there
 abbrev pub IsDead : List Known → Graph → List SymbolTree → Named → Occurrence → Type 0
@@ -72,7 +72,7 @@ PrivatesAreDead ks g f x =
 abbrev pub index_name : LoopTree → List ℕ
 index_name (tree.loop index first last step body) = index
 
--- of a DO that is parallel with these variables
+-- of a DO of which iterations have copies of these variables
 pub record MarkedIsDead (ks : List Known) (g : Graph) (m : ScopeTree) (l : LoopTree) (ns : List ℕ) (x : Occurrence) : Type 0 where
   -- the unit of its variable
   pub index : (v : ℕ) → names m.symbols (index_name l) ≡ Variable v → writes x (unit_in x.places v) ≡ true → is_read_first (unit_in x.places v) x.later ≡ false
@@ -82,4 +82,4 @@ abbrev pub MarkIsDead : List Known → Graph → ModuleResults → Occurrence �
 MarkIsDead ks g f x =
     let k = f.known in
     (l : LoopTree) → loop_in x.spot.statement k.read.body ≡ Some l →
-    (ns : List ℕ) → value_at f.marks x.spot.statement ≡ Some (Parallel ns) → MarkedIsDead ks g (scope_of g.untracked k) l ns x
+    (reductions : Bool) (r : Reduction) → said_at g reductions f x.spot.statement ≡ Some r → MarkedIsDead ks g (scope_of g.untracked k) l r.private x

@@ -26,12 +26,15 @@ pub mod MarkedFit
 pub mod MarkedLaws
 pub mod Inactive
 pub mod OwnLaws
+pub mod Said
 pub mod Dead
 pub mod Units
 pub mod Named
 pub mod DeadLaws
 pub mod Names
 pub mod Verdicts
+pub mod Parts
+pub mod Standings
 pub mod Known
 pub mod Rests
 pub mod Loops

@@ -23,6 +23,10 @@ use Rattle.laws_analyses.specs.Regions.Settings.{elements_with}
 use Rattle.laws_analyses.specs.Regions.Shown.{is_hidden}
 use Rattle.laws_marks.specs.ConflictClaims.{KnownLoop, IsSole, LoopIs}
 use Rattle.laws_interleavings.specs.Sound.{some_wrote, is_own}
+use Rattle.laws_interleavings.specs.Reductions.{Reduced, is_accumulator}
+use Rattle.laws_interleavings.specs.ReducedLoops.{AreDistinct, HaveRange}
+use Rattle.laws_interleavings.specs.Rides.{Outside, Rides}
+use Rattle.f77_ast.specs.Plans.{steps_of}
 use Rattle.laws_interleavings.specs.Plans.Fine.{IsFine}
 use Rattle.laws_interleavings.specs.Plans.Cleared.{HasNoValue, Cleared}
 use Rattle.laws_marks.specs.MarkedBegun.{iterations_of, did_in}
@@ -39,9 +43,13 @@ pub record IsUnitOf (ks : List Known) (g : Graph) (k : ScopeTree) (at : Places) 
 abbrev pub IsFree : ScopeTree → KnownLoop → Variable → Type 0
 IsFree k d v = (kinds : Kinds) → conflict_of (kept_system k.symbols d.body v kinds) ≡ answer.None
 
--- of a loop that is begun with the store s: each unit of it that an iteration writes each iteration has for itself
+-- of a loop that is begun with the store s: each unit of it that an iteration writes is one of these, which each iteration has for itself
+abbrev pub HasOwnUnits : List Known → Graph → ScopeTree → Places → (ℕ → Bool) → Marked → Store → Variable → Type 0
+HasOwnUnits ks g k at separate m s v = (u : ℕ) → IsUnitOf ks g k at v u → (j : ℕ) → j < m.count → is_written u (did_in m s j) ≡ true → separate u ≡ true
+
+-- or is private
 abbrev pub HasPrivateUnits : List Known → Graph → ScopeTree → Places → Marked → Store → Variable → Type 0
-HasPrivateUnits ks g k at m s v = (u : ℕ) → IsUnitOf ks g k at v u → (j : ℕ) → j < m.count → is_written u (did_in m s j) ≡ true → m.private u ≡ true
+HasPrivateUnits ks g k at m s v = HasOwnUnits ks g k at m.private m s v
 
 -- a unit of a variable of which each iteration may have its own copy, and which no other variable overlaps
 pub record IsCopied (ks : List Known) (g : Graph) (k : ScopeTree) (at : Places) (d : KnownLoop) (u : ℕ) : Type 0 where
@@ -55,13 +63,14 @@ pub record IsCopied (ks : List Known) (g : Graph) (k : ScopeTree) (at : Places) 
 
 -- ---- an execution
 
--- begun with the store s, in a module of the scope k whose variables lie at these places; d has what is known of the DO
-pub record LoopIsFit (ks : List Known) (g : Graph) (k : ScopeTree) (at : Places) (d : KnownLoop) (m : Marked) (s : Store) (i : List Content) : Type 0 where
+-- begun with the store s, in a module of the scope k whose variables lie at these places; d has what is known of the DO. These units each iteration has for itself: the private ones, and of a loop
+-- with reduction variables also its copies
+pub record LoopIsFit (ks : List Known) (g : Graph) (k : ScopeTree) (at : Places) (d : KnownLoop) (separate : ℕ → Bool) (m : Marked) (s : Store) (i : List Content) : Type 0 where
   pub ends : EndsQuietly m s
   -- its iterations are as claimed
   pub known : LoopIs ks g k at d s (iterations_of m s i)
-  -- each variable of a WRITE region of the body has no conflict, or what is written of it is private
-  pub verdicts : (r : Region) → In r d.body.regions → r.kind ≡ Write → IsFree k d r.variable ⊎ HasPrivateUnits ks g k at m s r.variable
+  -- each variable of a WRITE region of the body has no conflict, or each iteration has for itself what is written of it
+  pub verdicts : (r : Region) → In r d.body.regions → r.kind ≡ Write → IsFree k d r.variable ⊎ HasOwnUnits ks g k at separate m s r.variable
   -- the names of the directive are of variables that may be copied
   pub names : (u : ℕ) → m.named u ≡ true → nat_eq u m.index ≡ false → IsCopied ks g k at d u
   -- the body reads no unit without a value but to fault, and changes without an event only private units that belong to no name
@@ -79,3 +88,10 @@ pub record LoopIsFit (ks : List Known) (g : Graph) (k : ScopeTree) (at : Places)
 pub record IsDeadAfter (m : Marked) (s : Store) (later : List Event) : Type 0 where
   pub index : is_read_first m.index later ≡ false
   pub named : (u : ℕ) → m.named u ≡ true → some_wrote m s m.count u ≡ true → is_read_first u later ≡ false
+
+-- of a loop with reduction variables: its body uses these to accumulate alone, no two of them have one unit, none has a private one, and MAX and MIN begin with numbers in the range of INTEGER
+pub record AccumulatesAlone (d : Reduced) (s : Store) : Type 0 where
+  pub rides : Rides d.accumulators Outside (steps_of d.loop.body) (steps_of d.body)
+  pub distinct : AreDistinct d.accumulators
+  pub none_private : (u : ℕ) → is_accumulator d.accumulators u ≡ true → d.loop.private u ≡ false
+  pub have_range : HaveRange d s

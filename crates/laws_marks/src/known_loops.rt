@@ -11,9 +11,9 @@ pub fn marks_say_parallel()
     ensures { MarksSayParallel }
 {}
 
-/// In every run of a program that is read, up to its first fault, and at each execution of a DO that is marked as parallel and comes to an end: the loop to which it comes
-/// ends normally without input and output, its iterations are as the analyses claim, and each variable of a WRITE region of its body has no conflict, or its units are
-/// private in the loop, where the names of the directive stand for the variables of the mark.
+/// In every run of a program that is read, up to its first fault, and at each execution of a DO that has a directive and comes to an end: the loop to which it comes
+/// ends normally without input and output, its iterations are as the analyses claim, and each variable of a WRITE region of its body has no conflict, or each iteration has
+/// its units for itself, where what it writes of the symbols of which it has copies, and of reduction variables, is of its own.
 pub fn marked_loops_are_known()
     ensures { ReadMarkedLoopsAreKnown }
 {

@@ -10,6 +10,7 @@ mod ins_hold;
 mod known_loops;
 mod marked_loops;
 mod outs_hold;
+mod reduction_variables;
 mod whole_runs;
 
 pub use conflicts::{copies_are_sole, iterations_are_parts, read_loops_hold};
@@ -25,7 +26,8 @@ pub use ins_hold::read_ins_hold;
 pub use known_loops::{marked_loops_are_known, marks_say_parallel};
 pub use marked_loops::{
     dos_are_quiet, iterations_are_begun, loops_begin, loops_end_quietly, loops_hold,
-    loops_may_interleave,
+    loops_may_interleave, reduced_loops_hold,
 };
 pub use outs_hold::read_outs_hold;
+pub use reduction_variables::{locals_stay_apart, reductions_say, stores_stay_in_range};
 pub use whole_runs::{read_marks_hold, read_runs_do_as_plain};

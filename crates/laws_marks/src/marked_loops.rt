@@ -1,5 +1,5 @@
 //! The laws.
-ghost use Rattle.laws_marks.specs.MarkedLaws.{IterationsAreBegun, LoopsEndQuietly, DosAreQuiet, LoopsBegin, LoopsMayInterleave, LoopsHold};
+ghost use Rattle.laws_marks.specs.MarkedLaws.{IterationsAreBegun, LoopsEndQuietly, DosAreQuiet, LoopsBegin, LoopsMayInterleave, LoopsHold, ReducedLoopsHold};
 
 /// The plan of a marked DO that ends normally and takes no input is cut into the iterations of the loop.
 pub fn iterations_are_begun()
@@ -16,7 +16,7 @@ pub fn dos_are_quiet()
     ensures { DosAreQuiet }
 {}
 
-/// A marked DO looks at units, gives its variable its first number, and then does what its loop does.
+/// A DO with a directive looks at units, gives its variable its first number, and then does what its loop does, or its loop with reduction variables.
 pub fn loops_begin()
     ensures { LoopsBegin }
 {}
@@ -29,4 +29,9 @@ pub fn loops_may_interleave()
 /// What is asked of a marked loop, and of what the run does after it, holds, where nothing later reads what the loop loses.
 pub fn loops_hold()
     ensures { LoopsHold }
+{}
+
+/// So it is of a marked loop with reduction variables, of which each iteration has copies, where its body uses these to accumulate alone.
+pub fn reduced_loops_hold()
+    ensures { ReducedLoopsHold }
 {}

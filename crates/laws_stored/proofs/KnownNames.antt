@@ -17,7 +17,7 @@ use Rattle.f77_statements.specs.Phrases.{PhraseTree, program, end_do, end_module
 use Rattle.f77_ast.specs.Symbols.{SymbolTree}
 use Rattle.f77_names.specs.declared.functions.Function.{Function}
 use Rattle.f77_names.specs.declared.lines.Sited.TheVariants.{Decl, Statement, ElseIf, Title}
-use Rattle.f77_names.specs.Lines.{LineTable, line_or}
+use Rattle.f77_names.specs.Lines.{LineTable, lines_of, line_or}
 use Rattle.f77_names.specs.Functions.{function_of, arrays_named}
 use Rattle.f77_names.specs.Entries.{EntryTree, fresh, find, entry_names, seen, changed, with_dummy, as_parameter}
 use Rattle.f77_names.specs.Appearing.{unless_function, name_seen, expr_seen, exprs_seen, maybe_seen, head_of, head_seen, stmt_seen, what_seen, arm_seen, arms_seen, else_seen, loop_seen, stmts_seen}
@@ -46,7 +46,7 @@ use Rattle.laws_programs.proofs.Layouts.DifferLaws.{names_more, names_changed}
 
 -- no line is known
 abbrev no_lines : LineTable
-no_lines s = None
+no_lines = lines_of []
 
 module _ (Name : List ℕ → Type 0) where
   abbrev Names : List (List ℕ) → Type 0

@@ -2,17 +2,12 @@
 use Rattle.std.proofs.Common.{◌≡◌, ℕ, List, [], ◌∷◌, ◌++◌, map, refl, append_assoc, append-nil, None, ap, ap₂, ◌∙◌}
 use Rattle.std.proofs.lemmas.List.{map-append}
 use Rattle.std.proofs.lemmas.List.Elements.{All-pop}
-use Rattle.f77_ast.specs.declared.symbol.Symbol.{Symbol}
 use Rattle.f77_ast.specs.declared.variable.Unit.{Unit as BlockUnit}
-use Rattle.f77_ast.specs.Symbols.{symbol_tree}
-use Rattle.f77_ast.specs.Index.{names_of}
-use Rattle.f77_meaning.specs.Modules.{symbol_names}
 use Rattle.effects.specs.List.{Callees}
 use Rattle.module_phases.specs.OutPhases.{ModuleOuts}
 use Rattle.loop_marker.specs.Results.{ModuleResults}
 use Rattle.loop_marker.specs.Phases.{no_callees, with_callee, with_marks, found_in}
 use Rattle.fx_lists.proofs.Numbers.{same_function}
-use Rattle.f77_meaning.proofs.SymbolNames.{names-same as names_same}
 
 pub ruleset one_more = (map-append, append_assoc, append-nil)
 

@@ -13,7 +13,7 @@ use fx_lists::{List, Text};
 /// Whether a name stands in an expression, of a variable, an array or a function.
 #[cycle(names)]
 #[tactic(auto, using(f77_ast::proofs::Plainly::expr_calls))]
-fn has_name(name: &Text, e: &Expr) -> bool
+pub fn has_name(name: &Text, e: &Expr) -> bool
     ensures { result ≡ has_name_is name.now (expr_tree e.now) }
 {
     match e {
@@ -25,9 +25,10 @@ fn has_name(name: &Text, e: &Expr) -> bool
     }
 }
 
+/// Whether it stands in one of these.
 #[cycle(names)]
 #[tactic(auto, using(f77_ast::proofs::Plainly::expr_items))]
-fn have_name(name: &Text, es: &List<Expr>) -> bool
+pub fn have_name(name: &Text, es: &List<Expr>) -> bool
     ensures { result ≡ have_name_is name.now (expr_trees es.now) }
 {
     for e in es.as_slice() {
@@ -49,7 +50,7 @@ fn step_has_name(name: &Text, step: &Option<Expr>) -> bool
 
 /// Whether a name stands in the first, the last or the step of a DO (ANSI X3.9-1978, §11.10).
 #[tactic(auto, using(crate::proofs::Steps::loops))]
-fn bounds_have_name(name: &Text, l: &Loop) -> bool
+pub fn bounds_have_name(name: &Text, l: &Loop) -> bool
     ensures { result ≡ bounds_have_name_is name.now (loop_tree l.now) }
 {
     has_name(name, &l.first) || has_name(name, &l.last) || step_has_name(name, &l.step)

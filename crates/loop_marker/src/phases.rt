@@ -3,7 +3,7 @@ ghost use Rattle.std.specs.Prelude.{◌≡◌, ◌++◌, ◌∷◌, [], ℕ, Lis
 ghost use Rattle.f77_ast.specs.Summaries.{summary_in};
 ghost use Rattle.module_phases.specs.OutViews.{outs_tree, ModuleFits};
 ghost use Rattle.loop_marker.specs.Phases.{known_in, with_callee, effects_found, marks_found, module_results, with_marks, all_marks as all_marks_is};
-ghost use Rattle.loop_marker.specs.Views.{results_tree};
+ghost use Rattle.loop_marker.specs.Views.{results_tree, ResultsFit};
 
 use crate::marks;
 use affine_systems::System;
@@ -132,9 +132,11 @@ fn add_module<'a>(
     callees: &mut Summaries<EffectSet>,
     all: &mut Vec<ModuleResults<'a>>,
 ) -> Result<(), Memory>
-    requires { ModuleFits outs }
+    requires outs { ModuleFits outs }
+    requires all { All ResultsFit all.old.items }
     ensures added { IfOk result (λ _. map results_tree all.new.items ≡ map results_tree all.old.items ++ with_marks graph.now.untracked (summary_in callees.old) (outs_tree outs.entry) ∷ []) }
     ensures callees { IfOk result (λ _. (x : List ℕ) → summary_in callees.new x ≡ with_callee (with_marks graph.now.untracked (summary_in callees.old) (outs_tree outs.entry)) (summary_in callees.old) x) }
+    ensures fits { IfOk result (λ _. All ResultsFit all.new.items) }
 {
     let effects = effects_of(alloc, graph, &outs, callees)?;
     let marks = marks_with(alloc, graph, &outs, &effects)?;
@@ -152,7 +154,8 @@ pub fn all_marks<'a>(
     mut left: Vec<ModuleOuts<'a>>,
 ) -> Result<Vec<ModuleResults<'a>>, Memory>
     requires { All ModuleFits left.items }
-    ensures { IfOk result (λ all. map results_tree all.items ≡ all_marks_is graph.now (map outs_tree left.entry.items)) }
+    ensures defined { IfOk result (λ all. map results_tree all.items ≡ all_marks_is graph.now (map outs_tree left.entry.items)) }
+    ensures fits { IfOk result (λ all. All ResultsFit all.items) }
 {
     let mut callees = Summaries::new(alloc);
     let mut all = Vec::new(alloc);

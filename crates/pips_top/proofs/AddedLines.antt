@@ -18,7 +18,9 @@ use Rattle.pipsmake_base.specs.module_phases.OutPhases.{ModuleOuts, all_outs}
 use Rattle.pipsmake_base.specs.loop_marker.Results.{ModuleResults}
 use Rattle.pipsmake_base.specs.loop_marker.Phases.{phases_of, analysis_in, all_marks}
 use Rattle.pipsmake_base.specs.privatizer.Functions.{module_functions}
-use Rattle.pipsmake_base.specs.result_lines.ShownMarks.{marks_without}
+use Rattle.pipsmake_base.specs.result_lines.ReductionLines.{loops_said, reduced_lines_of}
+use Rattle.pipsmake_base.specs.pipsmake_meaning.Definitions.{printed_of}
+use Rattle.pipsmake_base.proofs.ResultLines.SaidLines.{loop_lines_said}
 use Rattle.pipsmake_base.specs.result_lines.ScalarLines.{Said, before, holds_lines, changes_lines, does_lines, says_changes, visible_lines, own_lines, stmt_lines, part_lines, list_lines, arms_lines, arm_lines, else_lines, loop_lines, entry_lines, said}
 use Rattle.system_text.specs.SystemText.{precondition_line, transformer_line}
 use Rattle.laws_programs.specs.roundtrip_programs.Statements.Formed.{Each}
@@ -31,18 +33,19 @@ use Rattle.laws_lines.specs.Regions.Names.{IsNamed, AreNamed}
 use Rattle.laws_lines.specs.Regions.LineLaws.{RegionLinesPass, AllRegionLinesPass}
 use Rattle.laws_lines.specs.Ins.Laws.{InLinesPass, AllInLinesPass}
 use Rattle.laws_lines.specs.Outs.Laws.{OutLinesPass, AllOutLinesPass}
-use Rattle.laws_lines.specs.Marks.Laws.{MarkLinesArePassedOver}
+use Rattle.laws_lines.specs.Marks.Laws.{LoopLinesArePassedOver}
 use Rattle.laws_lines.proofs.Regions.ProgramRegions.{ModuleFine, ModuleTold, each_named, regions_with, all_told, modules_fine}
 use Rattle.laws_lines.proofs.Regions.LinesPass.{names_shown}
 use Rattle.pipsmake_base.specs.pipsmake_meaning.ResultEntries.{results_for}
-use Rattle.pipsmake_base.specs.laws_database.ProgramTexts.{lines_with}
-use Rattle.pips_top.specs.Shown.{results_of_program, lines_for}
+use Rattle.laws_marks.specs.Said.{reductions_of, reduced_in}
+use Rattle.pips_top.specs.Shown.{results_of_program, lines_with, lines_for}
 use Rattle.pips_top.specs.Program.{ProgramTree}
+use Rattle.pips_top.specs.declared.wanted.Wanted.{Wanted}
 use Rattle.pipsmake_base.specs.result_lines.declared.show.Show.{Show}
 use Rattle.pipsmake_base.specs.result_lines.declared.show.Show.TheVariants.{All, Bare, Why}
-use Rattle.pips_top.proofs.LinesFound.{region_lines_found, scalar_lines_found, claims_found, mark_lines_found, lines_in}
+use Rattle.pips_top.proofs.LinesFound.{region_lines_found, scalar_lines_found, claims_found, loop_lines_found}
 use Rattle.pips_top.proofs.Programs.{each_at}
-use Rattle.pips_top.proofs.MarkNames.{MarksNamed, found_named, all_without_named, all_shown}
+use Rattle.pips_top.proofs.MarkNames.{MarksNamed, ReductionsNamed, found_named, reduced_named, all_shown}
 use Rattle.pips_top.proofs.Said.{said_at, regions_at, ins_at, outs_at, marks_are}
 use Rattle.fx_lists.proofs.Every.{every_at}
 
@@ -124,22 +127,23 @@ module _ (law : LinesArePassedOver) (k : Said) (shown : AreShown k.names) where
 
 -- ---- what is said of a module
 
--- its symbols have such names, which its marks name, and the lines of its regions and marks are passed over
-pub record IsSaid (f : ModuleResults) : Type 0 where
+-- its symbols have such names, which its marks and reductions name, and the lines of its regions and loops are passed over
+pub record IsSaid (g : Graph) (f : ModuleResults) : Type 0 where
   pub names : AreShown (symbol_names f.known.symbols)
   pub regions : RegionLinesPass (phases_of f).known.known
   pub ins : InLinesPass (phases_of f).known
   pub outs : OutLinesPass (phases_of f)
   pub named : MarksNamed IsShown (symbol_names f.known.symbols) f.marks
-  pub marks : (why : Bool) → AllByRecursion IsPassedOver (mark_lines_found why f)
+  pub reduced : ReductionsNamed (symbol_names f.known.symbols) (reduced_in g f)
+  pub loops : (reductions why : Bool) → AllByRecursion IsPassedOver (loop_lines_found reductions g why f)
 
-from_places : (fs : List ModuleResults) → ((j : ℕ) (f : ModuleResults) → slice_get fs j ≡ Some f → IsSaid f) → Each IsSaid fs
-from_places [] h = tt
-from_places (f ∷ fs) h = record { first = h zero f refl; others = from_places fs (λ j x e. h (suc j) x e) }
+from_places : (g : Graph) (fs : List ModuleResults) → ((j : ℕ) (f : ModuleResults) → slice_get fs j ≡ Some f → IsSaid g f) → Each (IsSaid g) fs
+from_places g [] h = tt
+from_places g (f ∷ fs) h = record { first = h zero f refl; others = from_places g fs (λ j x e. h (suc j) x e) }
 
 -- so it is of all that is said of a program
-pub all_said : AllRegionLinesPass → AllInLinesPass → AllOutLinesPass → MarkLinesArePassedOver → (p : ProgramTree) → AreTables p.modules p.tables → AreNamed IsShown (known_of p.modules p.tables) → Each IsSaid (results_of_program p)
-all_said law on_ins on_outs on_marks p t n = from_places (all_marks g os) each
+pub all_said : AllRegionLinesPass → AllInLinesPass → AllOutLinesPass → LoopLinesArePassedOver → (p : ProgramTree) → AreTables p.modules p.tables → AreNamed IsShown (known_of p.modules p.tables) → Each (IsSaid p.graph) (results_of_program p)
+all_said law on_ins on_outs on_loops p t n = from_places g (all_marks g os) each
   where
     g : Graph
     g = p.graph
@@ -159,7 +163,7 @@ all_said law on_ins on_outs on_marks p t n = from_places (all_marks g os) each
     os : List ModuleOuts
     os = all_outs g is
 
-    each : (j : ℕ) (f : ModuleResults) → slice_get (all_marks g os) j ≡ Some f → IsSaid f
+    each : (j : ℕ) (f : ModuleResults) → slice_get (all_marks g os) j ≡ Some f → IsSaid g f
     each j f e =
         let out = outs_at g os j f e in
         let here = ins_at g is out.0 (phases_of f) out.1 in
@@ -176,10 +180,13 @@ all_said law on_ins on_outs on_marks p t n = from_places (all_marks g os) each
           ins = each_at InLinesPass is (on_ins p.modules p.tables g t n) here.0 (phases_of f).known here.1;
           outs = each_at OutLinesPass os (on_outs p.modules p.tables g t n) out.0 (phases_of f) out.1;
           named = marks;
-          marks =
+          reduced = reduced_named IsShown g f told fine;
+          loops =
               let own = symbol_names f.known.symbols in
-              let functions = module_functions f.known.read in
-              λ why. on_marks own why (marks_without functions own f.marks) names (all_shown own (marks_without functions own f.marks) (all_without_named functions own IsShown f.marks marks));
+              λ reductions why.
+              let rs = reductions_of reductions g f in
+              subst (AllByRecursion IsPassedOver) (sym (loop_lines_said f.known why rs f.marks))
+              (on_loops own why (loops_said f.known rs f.marks) names (all_shown (module_functions f.known.read) own rs f.marks marks));
         }
 
 each_passed : (xs : List Added) → AllByRecursion IsPassedOver xs → AreOver xs
@@ -197,8 +204,8 @@ module _ (law : LinesArePassedOver) where
       join (entry_lines k.read.main names a.holds.summary own.summary) (list_lines k.read.body (said names own.at a.holds.at))
       (entry-over law names h k.read.main a.holds.summary own.summary) (list-over law (said names own.at a.holds.at) h k.read.body)
 
-  claims-over : (f : ModuleResults) → IsSaid f → AreOver (claims_found (phases_of f))
-  claims-over f h =
+  claims-over : (g : Graph) (f : ModuleResults) → IsSaid g f → AreOver (claims_found (phases_of f))
+  claims-over g f h =
       let k = f.known in
       let scalars = scalar_lines_found (analysis_in (phases_of f)) in
       let regions = region_lines_found k f.regions in
@@ -207,23 +214,23 @@ module _ (law : LinesArePassedOver) where
       join scalars (regions ++ (ins ++ outs)) (scalars-over (analysis_in (phases_of f)) h.names)
       (join regions (ins ++ outs) (each_passed regions h.regions) (join ins outs (each_passed ins h.ins) (each_passed outs h.outs)))
 
-  marks-over : (why : Bool) (f : ModuleResults) → IsSaid f → AreOver (mark_lines_found why f)
-  marks-over why f h = each_passed (mark_lines_found why f) (h.marks why)
+  loops-over : (reductions : Bool) (g : Graph) (why : Bool) (f : ModuleResults) → IsSaid g f → AreOver (loop_lines_found reductions g why f)
+  loops-over reductions g why f h = each_passed (loop_lines_found reductions g why f) (h.loops reductions why)
 
-  module-over : (show : Show) (f : ModuleResults) → IsSaid f → AreOver (lines_in show f)
-  module-over All f h = join (claims_found (phases_of f)) (mark_lines_found true f) (claims-over f h) (marks-over true f h)
-  module-over Bare f h = marks-over false f h
-  module-over Why f h = marks-over true f h
+  module-over : (show : Show) (reductions : Bool) (g : Graph) (f : ModuleResults) → IsSaid g f → AreOver (reduced_lines_of show f.known (printed_of f) (reductions_of reductions g f))
+  module-over All reductions g f h = join (claims_found (phases_of f)) (loop_lines_found reductions g true f) (claims-over g f h) (loops-over reductions g true f h)
+  module-over Bare reductions g f h = loops-over reductions g false f h
+  module-over Why reductions g f h = loops-over reductions g true f h
 
-  module _ (show : Show) where
-    choice-over : (b : Bool) (o p : Option ModuleResults) → AreOver (lines_with show o) → AreOver (lines_with show p) → AreOver (lines_with show (if b then o else p))
+  module _ (show : Wanted) (g : Graph) where
+    choice-over : (b : Bool) (o p : Option ModuleResults) → AreOver (lines_with show g o) → AreOver (lines_with show g p) → AreOver (lines_with show g (if b then o else p))
     choice-over true o p h e = h
     choice-over false o p h e = e
 
-    lines-over : (all : List ModuleResults) (x : List ℕ) → Each IsSaid all → AreOver (lines_for show all x)
+    lines-over : (all : List ModuleResults) (x : List ℕ) → Each (IsSaid g) all → AreOver (lines_for show g all x)
     lines-over [] x h = tt
-    lines-over (f ∷ fs) x h = choice-over (bytes_eq f.known.read.name x) (Some f) (results_for fs x) (module-over show f h.first) (lines-over fs x h.others)
+    lines-over (f ∷ fs) x h = choice-over (bytes_eq f.known.read.name x) (Some f) (results_for fs x) (module-over show.show show.reductions g f h.first) (lines-over fs x h.others)
 
-    pub all_over : (all : List ModuleResults) → Each IsSaid all → (ms : List ParsedTree) → AllPassedOver (λ m. lines_for show all m.module_read.name) ms
+    pub all_over : (all : List ModuleResults) → Each (IsSaid g) all → (ms : List ParsedTree) → AllPassedOver (λ m. lines_for show g all m.module_read.name) ms
     all_over all h [] = tt
     all_over all h (m ∷ ms) = record { first = lines-over all m.module_read.name h; others = all_over all h ms }

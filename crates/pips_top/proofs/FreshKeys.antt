@@ -41,7 +41,7 @@ placed (j ∷ js) k e = go (same_key j k) refl e (placed js k)
 -- ---- the walk of a written text
 
 -- results of these kinds of a module are in a list
-abbrev AllThere : List Key → List ℕ → List Kind → Type 0
+abbrev pub AllThere : List Key → List ℕ → List Kind → Type 0
 AllThere ks x [] = Unit {0}
 AllThere ks x (k ∷ rest) = (holds ks (key k x) ≡ true) × AllThere ks x rest
 
@@ -95,7 +95,7 @@ module _ (ts : List ModuleText) (x : List ℕ) where
 -- ---- what is fresh
 
 -- all results of stored kinds of these modules
-abbrev AllFresh : List Key → List (List ℕ) → Type 0
+abbrev pub AllFresh : List Key → List (List ℕ) → Type 0
 AllFresh ks [] = Unit {0}
 AllFresh ks (x ∷ xs) = AllThere ks x stored_kinds × AllFresh ks xs
 
@@ -106,13 +106,13 @@ all_keep : (o : Outline) (xs : List (List ℕ)) (k : Key) → holds o.fresh k �
 all_keep o [] k e = e
 all_keep o (x ∷ xs) k e = all_keep (after_asked o (key kind.Printed x)) xs k (puts_keep (walk_in o.texts (key kind.Printed x)) o.fresh k e)
 
-printed_fresh : (o : Outline) (xs : List (List ℕ)) → AllFresh (after_printed o xs).fresh xs
+pub printed_fresh : (o : Outline) (xs : List (List ℕ)) → AllFresh (after_printed o xs).fresh xs
 printed_fresh o [] = tt
 printed_fresh o (x ∷ xs) =
     let next : Outline = after_asked o (key kind.Printed x) in
     (kept_there next.fresh (after_printed next xs).fresh x stored_kinds (all_keep next xs) (one_fresh o x), printed_fresh next xs)
 
-same_texts : (o : Outline) (xs : List (List ℕ)) → (after_printed o xs).texts ≡ o.texts
+pub same_texts : (o : Outline) (xs : List (List ℕ)) → (after_printed o xs).texts ≡ o.texts
 same_texts o [] = refl
 same_texts o (x ∷ xs) = same_texts (after_asked o (key kind.Printed x)) xs
 
@@ -123,11 +123,6 @@ kinds_stored fresh x [] h = refl
 kinds_stored fresh x (k ∷ ks) h =
     ap₂ (λ (b : Bool) (more : List Key). (if b then key k x ∷ [] else []) ++ more) h.0 (kinds_stored fresh x ks h.1)
 
-all_stored : (fresh : List Key) (xs : List (List ℕ)) → AllFresh fresh xs → stored_keys fresh xs ≡ all_keys xs
+pub all_stored : (fresh : List Key) (xs : List (List ℕ)) → AllFresh fresh xs → stored_keys fresh xs ≡ all_keys xs
 all_stored fresh [] h = refl
 all_stored fresh (x ∷ xs) h = ap₂ (λ (own more : List Key). own ++ more) (kinds_stored fresh x stored_kinds h.0) (all_stored fresh xs h.1)
-
-pub outline_all : (o : Outline) → stored_keys (after_printed o (names_in o.texts)).fresh (names_in (after_printed o (names_in o.texts)).texts) ≡ all_keys (names_in (after_printed o (names_in o.texts)).texts)
-outline_all o =
-    let p : Outline = after_printed o (names_in o.texts) in
-    subst (λ ts. stored_keys p.fresh (names_in ts) ≡ all_keys (names_in ts)) (sym (same_texts o (names_in o.texts))) (all_stored p.fresh (names_in o.texts) (printed_fresh o (names_in o.texts)))

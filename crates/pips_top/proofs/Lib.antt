@@ -25,11 +25,17 @@ pub mod Endings
 pub mod Soundness
 pub mod Stopping
 pub mod FreshKeys
+pub mod Alone
+pub mod KeptTexts
+pub mod Analysed
+pub mod Lent
 pub mod ReadAlike
 pub mod PrintedOver
 pub mod OverBase
 mod ExampleReading
 mod FunctionReading
+mod FunctionResults
+mod SumResults
 mod Runs
 mod Claiming
 mod Schedules

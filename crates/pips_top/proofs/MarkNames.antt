@@ -1,5 +1,5 @@
--- The variables that marks of loops name are symbols, or those of regions.
-use Rattle.std.proofs.Common.{◌≡◌, ℕ, Bool, true, false, List, [], ◌∷◌, ◌++◌, Option, Some, None, refl, subst}
+-- The variables that marks of loops name are symbols, or those of regions; those of reductions are symbols.
+use Rattle.std.proofs.Common.{◌≡◌, ℕ, Bool, true, false, List, [], ◌∷◌, ◌++◌, map, Option, Some, None, refl, subst}
 use Rattle.std.specs.Prelude.{if◌then◌else◌}
 use Rattle.std.specs.declared.cmp.Ordering.{Ordering}
 use Rattle.std.specs.declared.cmp.Ordering.TheVariants.{Less, Equal, Greater}
@@ -7,7 +7,8 @@ use Rattle.std.specs.Ordering.{match_ordering}
 use Rattle.f77_ast.specs.Trees.{ExprTree, StmtTree, WhatTree, ArmTree, ArmTrees, ElseTree, LoopTree, StmtTrees}
 use Rattle.f77_ast.specs.Trees as tree
 use Rattle.f77_ast.specs.Shapes.{Walk, walk_stmt, walk_what, walk_body, walk_arms, walk_arm, walk_else, walk_list}
-use Rattle.f77_ast.specs.Symbols.{number_from}
+use Rattle.f77_ast.specs.DeclTrees.{ModuleTree}
+use Rattle.f77_ast.specs.Symbols.{SymbolTree, number_from}
 use Rattle.f77_ast.specs.declared.variable.Unit.{Unit as BlockUnit}
 use Rattle.f77_ast.specs.declared.variable.Variable.{Variable}
 use Rattle.f77_ast.specs.declared.variable.Variable.TheVariants.{Own, Block, Saved}
@@ -17,7 +18,7 @@ use Rattle.f77_ast.specs.declared.effect_set.EffectSet.{EffectSet}
 use Rattle.f77_ast.specs.declared.results.At.{At}
 use Rattle.f77_ast.specs.declared.results.Results.{Results}
 use Rattle.in_out_regions.specs.transformer_algebra.declared.transformer.Transformer.{Transformer}
-use Rattle.in_out_regions.specs.transformers.Lists.{transformer_at}
+use Rattle.in_out_regions.specs.transformers.Lists.{transformer_at, value_at}
 use Rattle.pipsmake_base.specs.module_phases.ScalarPhases.{Analysis, scope_of}
 use Rattle.in_out_regions.specs.region_sets.declared.region.Region.{Region}
 use Rattle.f77_ast.specs.declared.marks.Reason.{Reason}
@@ -34,8 +35,18 @@ use Rattle.pipsmake_base.specs.loop_marker.Variables.{own_variable, index_of, th
 use Rattle.pipsmake_base.specs.loop_marker.Marks.{Knowledge, index_is_bad, with_own, verdict_of, by_verdict, marked, by_variables, has_step, by_index, by_step, by_io, mark_of, the_marks, marks_of}
 use Rattle.pipsmake_base.specs.loop_marker.Known.{knowledge_of}
 use Rattle.pipsmake_base.specs.module_phases.OutPhases.{ModuleOuts}
-use Rattle.pipsmake_base.specs.loop_marker.Phases.{analysis_in, known_in, marks_found}
+use Rattle.pipsmake_base.specs.loop_marker.Phases.{phases_of, analysis_in, known_in, marks_found}
+use Rattle.call_graph.specs.declared.graph.Graph.{Graph}
+use Rattle.pipsmake_base.specs.loop_marker.dependence_test.Finding.{loop_in}
+use Rattle.pipsmake_base.specs.loop_marker.Results.{ModuleResults}
+use Rattle.pipsmake_base.specs.result_lines.ReductionLines.{loop_said, loop_said_at}
+use Rattle.pipsmake_base.specs.result_lines.declared.reduction.ReduceOp.{ReduceOp}
+use Rattle.pipsmake_base.specs.result_lines.declared.reduction.Part.{Part as ReducedPart}
+use Rattle.pipsmake_base.specs.result_lines.declared.reduction.Reduction.{Reduction}
+use Rattle.reductions.specs.Reduced.{operator_of, part_with, part_of, reduction_with, by_part, by_verdict as by_verdict_of_part, reduction_from, is_carried, reduction_in, at_number, found_at, reduced_of}
+use Rattle.laws_marks.specs.Said.{reduced_in, reductions_of}
 use Rattle.laws_lines.specs.Laws.{IsTracked}
+use Rattle.laws_lines.proofs.StatementVars.{AllAt, all_at-append}
 use Rattle.laws_lines.proofs.PhaseVars.{value_is}
 use Rattle.laws_lines.proofs.Regions.AccessVars.{IsNamedBy, named_number}
 use Rattle.laws_lines.proofs.Regions.RegionVars.{AreFine, at_fine, list_fine}
@@ -47,9 +58,9 @@ use Rattle.laws_lines.specs.RegionTexts.Laws.{IsShownVariable}
 use Rattle.pipsmake_base.specs.result_lines.ShownMarks.{numbers_without, mark_without, marks_without}
 use Rattle.system_text.specs.SystemText.{name_at}
 use Rattle.system_text.specs.Printed.{IsNumber, AreNumbers, AreNames}
-use Rattle.laws_lines.specs.Marks.Lines.{IsShownMark, AreShownMarks}
-use Rattle.laws_lines.specs.Marks.Laws.{DirectivesReadBack, ObstaclesAreNoDirectives}
-use Rattle.pips_top.specs.MarksRead.{IsMarkRead, AreMarksRead}
+use Rattle.laws_lines.specs.Marks.Lines.{IsShownSaid, AreShownSaid, AreNumberedParts}
+use Rattle.laws_lines.specs.Marks.Laws.{DirectivesReadBack, ReductionsReadBack, ObstaclesAreNoDirectives}
+use Rattle.pips_top.specs.MarksRead.{IsMarkRead, AreMarksRead, AreReductionsRead}
 
 -- ---- what holds of each part that a walk puts together
 
@@ -100,6 +111,14 @@ module _ {A : Type 0} (P : A → Type 0) (f : Walk (List A)) (k : Keeps P f) whe
     kept_list : (list : StmtTrees) → Each P (walk_list f list)
     kept_list tree.no_stmts = k.end
     kept_list (tree.more_stmts s rest) = k.more (walk_stmt f s) (walk_list f rest) (kept_stmt s) (kept_list rest)
+
+-- ---- what reductions name
+
+abbrev pub ReductionNamed : List (List ℕ) → Reduction → Type 0
+ReductionNamed names r = AreNumbers names r.private × AreNumberedParts names r.parts
+
+abbrev pub ReductionsNamed : List (List ℕ) → List (At Reduction) → Type 0
+ReductionsNamed names rs = AllAt (ReductionNamed names) rs
 
 -- ---- what marks name
 
@@ -213,6 +232,59 @@ module _ (Word : List ℕ → Type 0) (names : List (List ℕ)) where
   choice_named true x y h k = h
   choice_named false x y h k = k
 
+  -- ---- reductions
+
+  part_more : (ps : List ReducedPart) (p : ReducedPart) → AreNumberedParts names ps → IsNumber names p.cell → AreNumberedParts names (ps ++ p ∷ [])
+  part_more [] p h k = (k, tt)
+  part_more (q ∷ ps) p h k = (h.0, part_more ps p h.1 k)
+
+  abbrev PartNamed : Option ReducedPart → Type 0
+  PartNamed None = Unit {0}
+  PartNamed (Some p) = IsNumber names p.cell
+
+  abbrev MaybeNamed : Option Reduction → Type 0
+  MaybeNamed None = Unit {0}
+  MaybeNamed (Some r) = ReductionNamed names r
+
+  part_with_named : (n : ℕ) (o : Option ReduceOp) → IsNumber names n → PartNamed (part_with n o)
+  part_with_named n None h = tt
+  part_with_named n (Some p) h = h
+
+  part_named : (m : ModuleTree) (ss : List SymbolTree) (modules : List (List ℕ)) (l : LoopTree) (v : Variable) → N v → PartNamed (part_of m ss modules l v)
+  part_named m ss modules l (Own n) h = part_with_named n (operator_of m ss modules l n) h
+  part_named m ss modules l (Block b) h = tt
+  part_named m ss modules l (Saved s x) h = tt
+
+  by_part_named : (ps : List ReducedPart) (o : Option ReducedPart) (next : List ReducedPart → Option Reduction) → AreNumberedParts names ps → PartNamed o
+      → ((qs : List ReducedPart) → AreNumberedParts names qs → MaybeNamed (next qs)) → MaybeNamed (by_part ps o next)
+  by_part_named ps None next h k f = tt
+  by_part_named ps (Some p) next h k f = f (ps ++ p ∷ []) (part_more ps p h k)
+
+  by_verdict_named : (ns : List ℕ) (ps : List ReducedPart) (v : Variable) (o : Option ReducedPart) (t : Verdict) (next : List ℕ → List ReducedPart → Option Reduction) → AreNumbers names ns → AreNumberedParts names ps → N v
+      → PartNamed o → ((ms : List ℕ) (qs : List ReducedPart) → AreNumbers names ms → AreNumberedParts names qs → MaybeNamed (next ms qs)) → MaybeNamed (by_verdict_of_part ns ps v o t next)
+  by_verdict_named ns ps v o Free next h i j k f = f ns ps h i
+  by_verdict_named ns ps v o Copied next h i j k f = f (with_own ns v) ps (with_named ns v h j) i
+  by_verdict_named ns ps v o (Bad ks p) next h i j k f = by_part_named ps o (next ns) i k (λ qs e. f ns qs h e)
+
+  reduction_with_named : (ns : List ℕ) (ps : List ReducedPart) → AreNumbers names ns → AreNumberedParts names ps → MaybeNamed (reduction_with ns ps)
+  reduction_with_named ns [] h i = tt
+  reduction_with_named ns (p ∷ ps) h i = (h, i)
+
+  reduction_from_named : (k : Knowledge) (modules : List (List ℕ)) (l : LoopTree) (f : Variable → Verdict) (ns : List ℕ) (ps : List ReducedPart) (vs : List Variable) → AreNumbers names ns → AreNumberedParts names ps
+      → AreN vs → MaybeNamed (reduction_from k modules l f ns ps vs)
+  reduction_from_named k modules l f ns ps [] h i j = reduction_with_named ns ps h i
+  reduction_from_named k modules l f ns ps (v ∷ vs) h i j =
+      by_verdict_named ns ps v (part_of k.tree k.symbols modules l v) (f v) (λ ms qs. reduction_from k modules l f ms qs vs) h i j.first (part_named k.tree k.symbols modules l v j.first)
+      (λ ms qs a b. reduction_from_named k modules l f ms qs vs a b j.others)
+
+  number_named : (n : ℕ) (o : Option Reduction) → MaybeNamed o → ReductionsNamed names (at_number n o)
+  number_named n None h = tt
+  number_named n (Some r) h = (h, tt)
+
+  unless_named : (b : Bool) (rs : List (At Reduction)) → ReductionsNamed names rs → ReductionsNamed names (if b then rs else [])
+  unless_named true rs h = h
+  unless_named false rs h = tt
+
   module _ (k : Knowledge) (own : names ≡ k.names) (told : (l : LoopTree) → RegionsNamed (k.body l).regions) where
     by_step_named : (l : LoopTree) (u : Uses) (inner : List Variable) → AreN inner → MarkNamed (by_step k (k.body l) u l inner)
     by_step_named l u inner h =
@@ -247,6 +319,24 @@ module _ (Word : List ℕ → Type 0) (names : List (List ℕ)) where
           end = tt;
         }) k.tree.body
 
+    -- ---- and reductions
+
+    reduction_named : (modules : List (List ℕ)) (n : ℕ) (o : Option LoopTree) → MaybeNamed (reduction_in k modules n o)
+    reduction_named modules n None = tt
+    reduction_named modules n (Some l) =
+        let b = k.body l in
+        let inner = inner_in k.names k.tree l in
+        reduction_from_named k modules l (verdict_of k b (k.uses n l) l inner) [] [] (union inner (written_in b.regions)) tt tt
+        (union_named inner (written_in b.regions) (inner_named l) (written_named b.regions (told l)))
+
+    reductions_named : (modules : List (List ℕ)) (ms : List (At Mark)) → ReductionsNamed names (reduced_of k modules ms)
+    reductions_named modules [] = tt
+    reductions_named modules (m ∷ ms) =
+        let rs = at_number m.id (reduction_in k modules m.id (loop_in m.id k.tree.body)) in
+        all_at-append (ReductionNamed names) (found_at k modules m) (reduced_of k modules ms)
+        (unless_named (is_carried m.value) rs (number_named m.id (reduction_in k modules m.id (loop_in m.id k.tree.body)) (reduction_named modules m.id (loop_in m.id k.tree.body))))
+        (reductions_named modules ms)
+
 -- ---- without functions
 
 module _ (functions names : List (List ℕ)) where
@@ -254,7 +344,7 @@ module _ (functions names : List (List ℕ)) where
   number_choice true n ns h k = k
   number_choice false n ns h k = (h, k)
 
-  numbers_named : (ns : List ℕ) → AreNumbers names ns → AreNumbers names (numbers_without functions names ns)
+  pub numbers_named : (ns : List ℕ) → AreNumbers names ns → AreNumbers names (numbers_without functions names ns)
   numbers_named [] h = tt
   numbers_named (n ∷ ns) h = number_choice (is_one_of functions (name_at names n)) n (numbers_without functions names ns) h.0 (numbers_named ns h.1)
 
@@ -272,37 +362,43 @@ fine_named : (Word : List ℕ → Type 0) (names : List (List ℕ)) (ok : ℕ �
 fine_named Word names ok [] h = tt
 fine_named Word names ok (r ∷ rs) h = record { first = h.0.0; others = fine_named Word names ok rs h.1 }
 
--- the marks of a module with such regions, whatever its effects
-pub found_named : (Word : List ℕ → Type 0) (untracked : List BlockUnit) (f : ModuleOuts) (e : Results EffectSet) → ModuleTold Word untracked (analysis_in f) → ModuleFine Word untracked f.known.known
-    → MarksNamed Word (symbol_names (known_in f).symbols) (marks_found untracked f e)
-found_named Word untracked f e told fine =
-    marks_named Word names (knowledge_of k.read k.symbols names (scope_of untracked k) e.at a.found.own.at a.holds.at f.known.known.regions.at f.known.ins.at f.outs.at) refl body_named
-  where
-    a : Analysis
-    a = analysis_in f
+-- the marks and the reductions of a module with such regions, whatever its effects
+module _ (Word : List ℕ → Type 0) (untracked : List BlockUnit) (f : ModuleOuts) (e : Results EffectSet) (told : ModuleTold Word untracked (analysis_in f)) (fine : ModuleFine Word untracked f.known.known) where
+  abbrev analysed : Analysis
+  analysed = analysis_in f
 
-    k : Known
-    k = known_in f
+  abbrev looked_at : Known
+  looked_at = known_in f
 
-    names : List (List ℕ)
-    names = symbol_names k.symbols
+  abbrev own_names : List (List ℕ)
+  own_names = symbol_names looked_at.symbols
 
-    ok : ℕ → Type 0
-    ok = IsTracked untracked k
+  abbrev known_there : Knowledge
+  known_there = knowledge_of looked_at.read looked_at.symbols own_names (scope_of untracked looked_at) e.at analysed.found.own.at analysed.holds.at f.known.known.regions.at f.known.ins.at f.outs.at
 
-    M : Variable → Type 0
-    M = IsNamedHere Word k
+  body_named : (l : LoopTree) → RegionsNamed Word own_names (known_there.body l).regions
+  body_named (tree.loop index first last step body) =
+      let ok : ℕ → Type 0 = IsTracked untracked looked_at in
+      let M : Variable → Type 0 = IsNamedHere Word looked_at in
+      let t : ℕ → Transformer = transformer_at analysed.found.own.at in
+      let rs : ℕ → List Region = accesses_at f.known.known.regions.at in
+      fine_named Word own_names ok (list_regions t rs false body)
+      (list_fine M ok t rs (found_done ok analysed.found.own.at told.ok.found.at) (at_fine M ok f.known.known.regions.at (λ n qs q. value_is (AreFine M ok) f.known.known.regions.at n qs fine.at q)) false body)
 
-    t : ℕ → Transformer
-    t = transformer_at a.found.own.at
+  pub found_named : MarksNamed Word own_names (marks_found untracked f e)
+  found_named = marks_named Word own_names known_there refl body_named
 
-    rs : ℕ → List Region
-    rs = accesses_at f.known.known.regions.at
+  found_reduced : (modules : List (List ℕ)) (ms : List (At Mark)) → ReductionsNamed own_names (reduced_of known_there modules ms)
+  found_reduced modules ms = reductions_named Word own_names known_there refl body_named modules ms
 
-    body_named : (l : LoopTree) → RegionsNamed Word names ((knowledge_of k.read k.symbols names (scope_of untracked k) e.at a.found.own.at a.holds.at f.known.known.regions.at f.known.ins.at f.outs.at).body l).regions
-    body_named (tree.loop index first last step body) =
-        fine_named Word names ok (list_regions t rs false body)
-        (list_fine M ok t rs (found_done ok a.found.own.at told.ok.found.at) (at_fine M ok f.known.known.regions.at (λ n qs q. value_is (AreFine M ok) f.known.known.regions.at n qs fine.at q)) false body)
+pub reduced_named : (Word : List ℕ → Type 0) (g : Graph) (f : ModuleResults) → ModuleTold Word g.untracked (analysis_in (phases_of f)) → ModuleFine Word g.untracked (phases_of f).known.known
+    → ReductionsNamed (symbol_names f.known.symbols) (reduced_in g f)
+reduced_named Word g f told fine = found_reduced Word g.untracked (phases_of f) f.effects told fine g.order f.marks
+
+-- where none are asked for, there are none
+pub asked_named : (names : List (List ℕ)) (reductions : Bool) (g : Graph) (f : ModuleResults) → ReductionsNamed names (reduced_in g f) → ReductionsNamed names (reductions_of reductions g f)
+asked_named names false g f h = tt
+asked_named names true g f h = h
 
 -- ---- as laws on their lines ask
 
@@ -311,17 +407,18 @@ shown_variable names (Own n) h = tt
 shown_variable names (Block b) h = h
 shown_variable names (Saved s x) h = h
 
-shown_mark : (names : List (List ℕ)) (m : Mark) → MarkNamed IsShown names m → IsShownMark m
-shown_mark names (Parallel ns) h = tt
-shown_mark names (Serial Jump) h = tt
-shown_mark names (Serial InputOutput) h = tt
-shown_mark names (Serial Step) h = tt
-shown_mark names (Serial Index) h = tt
-shown_mark names (Serial (Carries v ks p)) h = shown_variable names v h
+shown_said : (functions names : List (List ℕ)) (m : Mark) (o : Option Reduction) → MarkNamed IsShown names m → IsShownSaid (loop_said functions names m o)
+shown_said functions names m (Some r) h = tt
+shown_said functions names (Parallel ns) None h = tt
+shown_said functions names (Serial Jump) None h = tt
+shown_said functions names (Serial InputOutput) None h = tt
+shown_said functions names (Serial Step) None h = tt
+shown_said functions names (Serial Index) None h = tt
+shown_said functions names (Serial (Carries v ks p)) None h = shown_variable names v h
 
-pub all_shown : (names : List (List ℕ)) (ms : List (At Mark)) → MarksNamed IsShown names ms → AreShownMarks ms
-all_shown names [] h = tt
-all_shown names (m ∷ ms) h = (shown_mark names m.value h.first, all_shown names ms h.others)
+pub all_shown : (functions names : List (List ℕ)) (rs : List (At Reduction)) (ms : List (At Mark)) → MarksNamed IsShown names ms → AreShownSaid (map (loop_said_at functions names rs) ms)
+all_shown functions names rs [] h = tt
+all_shown functions names rs (m ∷ ms) h = (shown_said functions names m.value (value_at rs m.id) h.first, all_shown functions names rs ms h.others)
 
 -- so they are read as just these marks
 mark_read : DirectivesReadBack → ObstaclesAreNoDirectives → (Word : List ℕ → Type 0) (names : List (List ℕ)) → AreNames names → (m : Mark) → MarkNamed Word names m → IsMarkRead names m
@@ -331,3 +428,9 @@ mark_read directives obstacles Word names are (Serial r) h = obstacles names r
 pub marks_read : DirectivesReadBack → ObstaclesAreNoDirectives → (Word : List ℕ → Type 0) (names : List (List ℕ)) → AreNames names → (ms : List (At Mark)) → MarksNamed Word names ms → AreMarksRead names ms
 marks_read directives obstacles Word names are [] h = tt
 marks_read directives obstacles Word names are (m ∷ ms) h = (mark_read directives obstacles Word names are m.value h.first, marks_read directives obstacles Word names are ms h.others)
+
+-- and as these reductions
+pub reductions_read : ReductionsReadBack → (functions names : List (List ℕ)) → AreNames names → (rs : List (At Reduction)) → ReductionsNamed names rs → AreReductionsRead functions names rs
+reductions_read law functions names are [] h = tt
+reductions_read law functions names are (r ∷ rs) h =
+    (law names (numbers_without functions names r.value.private) r.value.parts are (numbers_named functions names r.value.private h.0.0) h.0.1, reductions_read law functions names are rs h.1)

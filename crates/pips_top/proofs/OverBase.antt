@@ -14,6 +14,7 @@ use Rattle.pipsmake_base.specs.base_text.Grammar.{IsBase}
 use Rattle.pipsmake_base.specs.base_text.Written.{base_text, without_results, kept_base}
 use Rattle.pipsmake_base.specs.pipsmake_meaning.Texts.{ModuleText, names_in, SameTexts}
 use Rattle.pipsmake_base.specs.result_lines.declared.show.Show.{Show}
+use Rattle.pips_top.specs.declared.wanted.Wanted.{Wanted}
 use Rattle.pipsmake_base.specs.session_texts.Commands.{commands_of}
 use Rattle.pipsmake_base.specs.pipsmake_db.declared.db.Db.{Db}
 use Rattle.pipsmake_base.specs.pipsmake_db.AnswerSteps.{AnswersWhole, AnswersWholeFrom}
@@ -72,7 +73,7 @@ pub record IsOver (job : Job) (input : List ℕ) (o : Opening) : Type 0 where
   pub input_is : input_in job ≡ Some input
   pub opening_is : opening_in job ≡ Some o
 
-pub writes_over : (show : Show) (input : List ℕ) (o : Opening) → IsOver (jobs.WriteOver show input o) input o
+pub writes_over : (show : Wanted) (input : List ℕ) (o : Opening) → IsOver (jobs.WriteOver show input o) input o
 writes_over show input o = record { input_is = refl; opening_is = refl }
 
 pub answers_over : (show : Show) (input : List ℕ) (o : Opening) → IsOver (jobs.AnswerOver show input o) input o
@@ -181,12 +182,12 @@ module _ (job : Job) (input : List ℕ) (o : Opening) (is : IsOver job input o) 
 
 -- ---- the work
 
-module _ (old mid new : Stored) (o : Opening) (d e : Db) (left : Base) (only : OnlyBaseFaults mid.counts new.counts) (from : GoesOnFrom old mid o d) (by : IsLeftBy e left) (show : Show) (input : List ℕ) where
+module _ (old mid new : Stored) (o : Opening) (d e : Db) (left : Base) (only : OnlyBaseFaults mid.counts new.counts) (from : GoesOnFrom old mid o d) (by : IsLeftBy e left) where
   pub opens : Opens old new from.opened o × IsVerified o.verify from.opened
   opens = (opens_later old mid new from.opened o only from.opens, from.verified)
 
   -- a script
-  module _ (loaded : LoadedIsCurrent) (stays : AnswersStayCurrent) (modules : BasesAreModules) (sound : AnsweredSoundly) (script text : List ℕ) (got : FetchesInput old mid (fetched.Got script) input) (a : AnswersWhole show script d e text) where
+  module _ (show : Show) (input : List ℕ) (loaded : LoadedIsCurrent) (stays : AnswersStayCurrent) (modules : BasesAreModules) (sound : AnsweredSoundly) (script text : List ℕ) (got : FetchesInput old mid (fetched.Got script) input) (a : AnswersWhole show script d e text) where
     abbrev script_end : IsSaved from.opened → AnswersWholeFrom show script (loaded_state from.opened) text e
     script_end saved = a.from (loaded_state from.opened) (from.stands saved)
 
@@ -218,7 +219,7 @@ module _ (old mid new : Stored) (o : Opening) (d e : Db) (left : Base) (only : O
     script_works = record { bytes = script; got = got; opened = from.opened; opens = opens; leaves = script_leaves }
 
   -- a program
-  module _ (sound : ReadSoundly) (bytes text : List ℕ) (got : FetchesInput old mid (fetched.Got bytes) input) (p : PrintsOver show bytes text d e) where
+  module _ (show : Wanted) (input : List ℕ) (sound : ReadSoundly) (bytes text : List ℕ) (got : FetchesInput old mid (fetched.Got bytes) input) (p : PrintsOver show bytes text d e) where
     abbrev program_end : IsSaved from.opened → PrintsFrom show p.program text e
     program_end saved = p.from (loaded_state from.opened) (from.stands saved)
 
@@ -247,32 +248,31 @@ module _ (old mid new : Stored) (o : Opening) (d e : Db) (left : Base) (only : O
 
 -- ---- the replies
 
-module _ (old mid new : Stored) (same : mid.files ≡ old.files) (rises : (r : Role) → NoneFalls (old.counts r) (mid.counts r)) (only : OnlyBaseFaults mid.counts new.counts) (o : Opening) (d e : Db) (from : GoesOnFrom old mid o d) (show : Show)
-    (input : List ℕ) where
-  pub script_reply : LoadedIsCurrent → AnswersStayCurrent → BasesAreModules → AnsweredSoundly → (script text : List ℕ) → FetchesInput old mid (fetched.Got script) input → AnswersWhole show script d e text → (reply : Reply)
+module _ (old mid new : Stored) (same : mid.files ≡ old.files) (rises : (r : Role) → NoneFalls (old.counts r) (mid.counts r)) (only : OnlyBaseFaults mid.counts new.counts) (o : Opening) (d e : Db) (from : GoesOnFrom old mid o d) where
+  pub script_reply : (show : Show) (input : List ℕ) → LoadedIsCurrent → AnswersStayCurrent → BasesAreModules → AnsweredSoundly → (script text : List ℕ) → FetchesInput old mid (fetched.Got script) input → AnswersWhole show script d e text → (reply : Reply)
       → KeptWith mid new o.name e text reply → RepliesFor (jobs.AnswerOver show input o) old new reply
-  script_reply loaded stays modules sound script text got a (Writing written) (is, (left, by, k)) =
+  script_reply show input loaded stays modules sound script text got a (Writing written) (is, (left, by, k)) =
       let w = script_works old mid new o d e left only from by show input loaded stays modules sound script text got a in
       let good = script_good old mid new o d e left only from by show input loaded stays modules sound script text got a in
       subst (λ t. Keeps old new (jobs.AnswerOver show input o) o t) (sym is) (keeps (jobs.AnswerOver show input o) input o (answers_over show input o) old mid new same rises text left w by.grammar good k)
-  script_reply loaded stays modules sound script text got a (Stopping status line) (left, by, h) =
+  script_reply show input loaded stays modules sound script text got a (Stopping status line) (left, by, h) =
       let w = script_works old mid new o d e left only from by show input loaded stays modules sound script text got a in
       not_kept (jobs.AnswerOver show input o) input o (answers_over show input o) old mid new same rises text left w status line h
-  script_reply loaded stays modules sound script text got a NoMemory h = h ∙ same
+  script_reply show input loaded stays modules sound script text got a NoMemory h = h ∙ same
 
-  pub program_reply : ReadSoundly → (bytes text : List ℕ) → FetchesInput old mid (fetched.Got bytes) input → PrintsOver show bytes text d e → (reply : Reply) → KeptWith mid new o.name e text reply
+  pub program_reply : (show : Wanted) (input : List ℕ) → ReadSoundly → (bytes text : List ℕ) → FetchesInput old mid (fetched.Got bytes) input → PrintsOver show bytes text d e → (reply : Reply) → KeptWith mid new o.name e text reply
       → RepliesFor (jobs.WriteOver show input o) old new reply
-  program_reply sound bytes text got p (Writing written) (is, (left, by, k)) =
+  program_reply show input sound bytes text got p (Writing written) (is, (left, by, k)) =
       let w = program_works old mid new o d e left only from by show input sound bytes text got p in
       let good = program_good old mid new o d e left only from by show input sound bytes text got p in
       subst (λ t. Keeps old new (jobs.WriteOver show input o) o t) (sym is) (keeps (jobs.WriteOver show input o) input o (writes_over show input o) old mid new same rises text left w by.grammar good k)
-  program_reply sound bytes text got p (Stopping status line) (left, by, h) =
+  program_reply show input sound bytes text got p (Stopping status line) (left, by, h) =
       let w = program_works old mid new o d e left only from by show input sound bytes text got p in
       not_kept (jobs.WriteOver show input o) input o (writes_over show input o) old mid new same rises text left w status line h
-  program_reply sound bytes text got p NoMemory h = h ∙ same
+  program_reply show input sound bytes text got p NoMemory h = h ∙ same
 
 -- a program that is refused
-pub refused_reply : (old mid : Stored) (same : mid.files ≡ old.files) (o : Opening) (d : Db) (from : GoesOnFrom old mid o d) (show : Show) (input bytes : List ℕ) → FetchesInput old mid (fetched.Got bytes) input
+pub refused_reply : (old mid : Stored) (same : mid.files ≡ old.files) (o : Opening) (d : Db) (from : GoesOnFrom old mid o d) (show : Wanted) (input bytes : List ℕ) → FetchesInput old mid (fetched.Got bytes) input
     → (at code : ℕ) (keyword : List ℕ) → made show bytes ≡ Refuses at code keyword → (line : Result (List ℕ) AllocError) → IfOk line (λ l. l ≡ refusal_line at code keyword) → (reply : Reply) → StopsOr (Refused at code) line reply
     → RepliesFor (jobs.WriteOver show input o) old mid reply
 refused_reply old mid same o d from show input bytes got at code keyword e (Ok line) is reply h =

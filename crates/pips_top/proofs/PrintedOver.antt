@@ -1,8 +1,9 @@
 -- A program that takes the place of the texts of a database is printed as it is written alone.
-use Rattle.std.proofs.Common.{◌≡◌, ℕ, List, Option, Some, None, Result, Ok, Err, refl, sym, ◌∙◌, subst}
+use Rattle.std.proofs.Common.{◌≡◌, ℕ, true, false, List, Option, Some, None, Result, Ok, Err, refl, sym, ap, ◌∙◌, subst}
 use Rattle.f77_parser.specs.Gives.{Refused}
 use Rattle.call_graph.specs.declared.graph.Graph.{Graph}
 use Rattle.call_graph.specs.declared.refusal.Fault.{Fault}
+use Rattle.laws_programs.specs.roundtrip_programs.Laws.{TablesIgnorePlaces, GraphsIgnorePlaces}
 use Rattle.pipsmake_base.specs.result_lines.declared.show.Show.{Show}
 use Rattle.pipsmake_base.specs.pipsmake_meaning.Texts.{ModuleText, names_in, SameTexts, links_in}
 use Rattle.pipsmake_base.specs.laws_database.ProgramTexts.{texts_named}
@@ -12,19 +13,23 @@ use Rattle.pipsmake_base.specs.laws_database.Sources.Laws.{AcceptedIsSplit, IsSp
 use Rattle.pipsmake_base.specs.laws_database.Sources.Whole.{LinkedIsAccepted, SomeProgram}
 use Rattle.pipsmake_base.specs.pipsmake_db.declared.db.Db.{Db}
 use Rattle.pipsmake_base.specs.pipsmake_db.declared.print.Prints.{Prints}
-use Rattle.pipsmake_base.specs.pipsmake_db.AnswerSteps.{PrintsAll}
+use Rattle.pipsmake_base.specs.pipsmake_db.AnswerSteps.{PrintsAllFrom, PrintsStored, PrintsAll}
 use Rattle.pipsmake_base.specs.pipsmake_db.Calls.{Stays, Rests, ReplacesAll}
-use Rattle.pipsmake_base.specs.pipsmake_db.Outlines.{Outline, outline_of}
-use Rattle.pipsmake_base.specs.pipsmake_db.Shown.{texts_from}
+use Rattle.pipsmake_base.specs.pipsmake_db.Outlines.{Outline, outline_of, after_printed}
 use Rattle.pipsmake_base.specs.pipsmake_db.Refusals.{refused_links, link_refusal}
 use Rattle.pipsmake_base.specs.pipsmake_db.State.{State, after_all, texts_of, IsIn}
-use Rattle.pipsmake_base.specs.Current.{PrintingStaysCurrent}
+use Rattle.pipsmake_base.specs.Current.{FreshIsCurrent, PrintingStaysCurrent}
 use Rattle.pipsmake_base.specs.Saving.{stored_keys}
 use Rattle.pips_top.specs.Based.{all_keys}
+use Rattle.pips_top.specs.Kept.{texts_wanted, KeptTexts}
 use Rattle.pips_top.specs.Program.{ProgramTree}
-use Rattle.pips_top.specs.Replies.{PrintsFrom, PrintsOver}
+use Rattle.pips_top.specs.Replies.{PrintsOver}
+use Rattle.pips_top.specs.Shown.{alone}
 use Rattle.pips_top.specs.Written.{written}
-use Rattle.pips_top.proofs.FreshKeys.{outline_all}
+use Rattle.pips_top.specs.declared.wanted.Wanted.{Wanted}
+use Rattle.pips_top.proofs.Alone.{written_alone, texts_alone}
+use Rattle.pips_top.proofs.FreshKeys.{AllFresh, printed_fresh, same_texts, all_stored}
+use Rattle.pips_top.proofs.KeptTexts.{with_reductions, all_written, texts_stored}
 use Rattle.pips_top.proofs.ReadBack.{reading_is}
 use Rattle.pipsmake_base.proofs.PipsmakeDb.CommandLemmas.{stays_in, stays_resting}
 
@@ -42,7 +47,7 @@ same_found ts us r e f = let both : Ok us ≡ Ok ts = sym f ∙ e in cc
 same_text : (o : Option (List ℕ)) (t u : List ℕ) → o ≡ Some t → o ≡ Some u → t ≡ u
 same_text o t u e f = let both : Some t ≡ Some u = sym e ∙ f in cc
 
-module _ (split : AcceptedIsSplit) (accepted : LinkedIsAccepted) (current : PrintingStaysCurrent) (show : Show) (bytes : List ℕ) (d mid between e : Db) (names : List (List ℕ)) (prints : Prints)
+module _ (split : AcceptedIsSplit) (accepted : LinkedIsAccepted) (current : PrintingStaysCurrent) (tables_law : TablesIgnorePlaces) (graphs_law : GraphsIgnorePlaces) (show : Show) (bytes : List ℕ) (d mid between e : Db) (names : List (List ℕ)) (prints : Prints)
     (replaced : ReplacesAll d mid bytes names) (none : link_refusal (texts_of mid) ≡ None) (stay : Stays mid between) (all : PrintsAll show between e prints) where
   abbrev sources : List ModuleText
   sources = replaced.found
@@ -59,37 +64,76 @@ module _ (split : AcceptedIsSplit) (accepted : LinkedIsAccepted) (current : Prin
   abbrev program : ProgramTree
   program = record { modules = some.modules; tables = some.tables; graph = linked.graph }
 
-  shown : texts_named show sources (names_in sources) ≡ Some (written show program)
-  shown = subst (λ ts. texts_named show ts (names_in ts) ≡ Some (written show program)) (same_found sources parts.texts (source_modules bytes) replaced.read parts.read) (parts.shown show)
+  read_as : sources ≡ parts.texts
+  read_as = same_found parts.texts sources (source_modules bytes) parts.read replaced.read
 
-  printed_from : (s : State) → IsIn d s → PrintsFrom show program prints.text e
-  printed_from s is =
-      let start : State = after_all s sources in
-      let p = all.from start (stays_in mid between start stay (replaced.leads s is)) in
-      record {
-        next = p.next;
-        is_in = p.is_in;
-        current = current start p.next (names_in sources) p.now p.makes tt;
-        is = same_text (texts_named show sources (names_in sources)) prints.text (written show program) p.text shown;
-      }
+  texts_are : texts_of e ≡ sources
+  texts_are = all.texts ∙ stay.texts ∙ replaced.texts
 
-  shown_from : (stored : Valuation) → Rests d stored → SameTexts (texts_of d) sources → texts_from sources stored show (names_in sources) ≡ Some prints.text
-  shown_from stored rests same =
-      let mid_rests : Rests mid stored = replaced.rests (subst (SameTexts (texts_of d)) (sym replaced.texts) same) stored rests in
-      let p = all.rests stored (stays_resting mid between stored stay mid_rests) in
-      subst (λ ts. texts_from ts stored show (names_in ts) ≡ Some prints.text) (all.texts ∙ stay.texts ∙ replaced.texts) p.text
+  shown : texts_named show sources (names_in sources) ≡ Some (written (alone show) program)
+  shown = ap (λ ts. texts_named show ts (names_in ts)) read_as ∙ parts.shown show ∙ ap Some (sym (written_alone show program))
+
+  is_fresh : AllFresh e.fresh (names_in (texts_of e))
+  is_fresh =
+      subst (λ (o : Outline). AllFresh o.fresh (names_in o.texts)) (sym all.anyway.outline)
+      (subst (λ ts. AllFresh (after_printed (outline_of between) (names_in (texts_of between))).fresh (names_in ts)) (sym (same_texts (outline_of between) (names_in (texts_of between)))) (printed_fresh (outline_of between) (names_in (texts_of between))))
 
   all_fresh : stored_keys e.fresh (names_in (texts_of e)) ≡ all_keys (names_in (texts_of e))
-  all_fresh = subst (λ (o : Outline). stored_keys o.fresh (names_in o.texts) ≡ all_keys (names_in o.texts)) (sym all.anyway.outline) (outline_all (outline_of between))
+  all_fresh = all_stored e.fresh (names_in (texts_of e)) is_fresh
 
-  pub printed_over : PrintsOver show bytes prints.text d e
-  printed_over = record {
+  -- ---- from a state
+
+  ended : (s : State) → IsIn d s → PrintsAllFrom show (after_all s sources) prints e
+  ended s is = all.from (after_all s sources) (stays_in mid between (after_all s sources) stay (replaced.leads s is))
+
+  up_to_date : (s : State) (is : IsIn d s) → FreshIsCurrent (ended s is).next
+  up_to_date s is = let p = ended s is in current (after_all s sources) p.next (names_in sources) p.now p.makes tt
+
+  -- ---- over stored results
+
+  printed_stored : (stored : Valuation) → Rests d stored → SameTexts (texts_of d) sources → PrintsStored show stored prints e
+  printed_stored stored rests same =
+      let mid_rests : Rests mid stored = replaced.rests (subst (SameTexts (texts_of d)) (sym replaced.texts) same) stored rests in
+      all.rests stored (stays_resting mid between stored stay mid_rests)
+
+  abbrev OverIt : Wanted → List ℕ → Type 0
+  OverIt w text = PrintsOver w bytes text d e
+
+  printed : (w : Wanted) (text : List ℕ) → ((stored : Valuation) → PrintsStored show stored prints e → texts_wanted sources stored w (names_in sources) ≡ Some text)
+      → ((s : State) → IsIn e s → FreshIsCurrent s → texts_named show sources (names_in sources) ≡ Some prints.text → text ≡ written w program) → OverIt w text
+  printed w text of_stored of_state = record {
     program = program;
     as_program = reading_is bytes some.modules some.tables linked.graph some.program;
     sources = sources;
     split = replaced.read;
-    texts = all.texts ∙ stay.texts ∙ replaced.texts;
+    texts = texts_are;
     all = all_fresh;
-    rests = shown_from;
-    from = printed_from;
+    rests = λ stored rests same. of_stored stored (printed_stored stored rests same);
+    from = λ s is. (let p = ended s is in record { next = p.next; is_in = p.is_in; current = up_to_date s is; is = of_state p.next p.is_in (up_to_date s is) p.text });
   }
+
+  -- without reduction variables
+  printed_alone : OverIt (alone show) prints.text
+  printed_alone =
+      printed (alone show) prints.text
+      (λ stored p. ap (λ ts. texts_wanted ts stored (alone show) (names_in ts)) (sym texts_are) ∙ texts_alone (texts_of e) stored show (names_in (texts_of e)) ∙ p.text)
+      (λ s is current e. same_text (texts_named show sources (names_in sources)) prints.text (written (alone show) program) e shown)
+
+  -- with them, from what is kept
+  printed_reduced : (text : List ℕ) → KeptTexts show e text → OverIt (with_reductions show) text
+  printed_reduced text kept =
+      printed (with_reductions show) text
+      (λ stored p. ap (λ ts. texts_wanted ts stored (with_reductions show) (names_in ts)) (sym texts_are) ∙ texts_stored show e stored p.rests text kept)
+      (λ s is now made. all_written tables_law graphs_law show bytes some.modules some.tables linked.graph parts e s is now (texts_are ∙ read_as) is_fresh text kept)
+
+module _ (split : AcceptedIsSplit) (accepted : LinkedIsAccepted) (current : PrintingStaysCurrent) (tables_law : TablesIgnorePlaces) (graphs_law : GraphsIgnorePlaces) (w : Wanted) (bytes : List ℕ) (d mid between e : Db) (names : List (List ℕ)) (prints : Prints)
+    (replaced : ReplacesAll d mid bytes names) (none : link_refusal (texts_of mid) ≡ None) (stay : Stays mid between) (all : PrintsAll w.show between e prints) where
+  pub printed_over : w.reductions ≡ false → PrintsOver w bytes prints.text d e
+  printed_over h =
+      subst (λ b. PrintsOver (record { show = w.show; reductions = b }) bytes prints.text d e) (sym h)
+      (printed_alone split accepted current tables_law graphs_law w.show bytes d mid between e names prints replaced none stay all)
+
+  pub reduced_over : w.reductions ≡ true → (text : List ℕ) → KeptTexts w.show e text → PrintsOver w bytes text d e
+  reduced_over h text kept =
+      subst (λ b. PrintsOver (record { show = w.show; reductions = b }) bytes text d e) (sym h)
+      (printed_reduced split accepted current tables_law graphs_law w.show bytes d mid between e names prints replaced none stay all text kept)

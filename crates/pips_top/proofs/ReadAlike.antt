@@ -16,7 +16,7 @@ use Rattle.call_graph.specs.declared.graph.Graph.{Graph}
 use Rattle.call_graph.specs.declared.refusal.Fault.{Fault}
 use Rattle.call_graph.specs.declared.refusal.Fault.TheVariants.{NoMain, At}
 use Rattle.call_graph.specs.Links.{link_of}
-use Rattle.pipsmake_base.specs.result_lines.declared.show.Show.{Show}
+use Rattle.pips_top.specs.declared.wanted.Wanted.{Wanted}
 use Rattle.pipsmake_base.specs.pipsmake_meaning.Texts as database
 use Rattle.pipsmake_base.specs.pipsmake_meaning.Texts.{ModuleText, links_in}
 use Rattle.pipsmake_base.specs.session_texts.Sources as session
@@ -81,7 +81,7 @@ refused_whole : (r : Result ProgramTree Refused) (q : Refused) → links_of r �
 refused_whole (Ok p) q e = cc
 refused_whole (Err r) q e = let same : r ≡ q = cc in ap Err same
 
-module _ (law : LinkedAlike) (show : Show) (bytes : List ℕ) where
+module _ (law : LinkedAlike) (show : Wanted) (bytes : List ℕ) where
   made_refused : (q : Refused) → source_links bytes ≡ Err q → made show bytes ≡ Refuses q.line q.code q.keyword
   made_refused q e = ap (made_of show) (refused_whole (reading bytes) q (read_links bytes ∙ sym (law bytes) ∙ e))
 

@@ -19,22 +19,21 @@ use Rattle.laws_programs.proofs.Sources.{all_built}
 use Rattle.laws_lines.specs.Regions.LineLaws.{AllRegionLinesPass}
 use Rattle.laws_lines.specs.Ins.Laws.{AllInLinesPass}
 use Rattle.laws_lines.specs.Outs.Laws.{AllOutLinesPass}
-use Rattle.laws_lines.specs.Marks.Laws.{MarkLinesArePassedOver}
+use Rattle.laws_lines.specs.Marks.Laws.{LoopLinesArePassedOver}
 use Rattle.laws_lines.specs.Marks.WholeLaws.{TextsAreWrittenAgain}
 use Rattle.laws_programs.specs.Layout.Laws.{BlocksHaveAChain}
 use Rattle.laws_programs.specs.roundtrip_programs.Texts.Texts as back
 use Rattle.laws_programs.specs.roundtrip_programs.Texts.Laws.{AllPassedOver}
 use Rattle.laws_programs.specs.roundtrip_programs.Lines.{LinesArePassedOver}
 use Rattle.laws_programs.specs.roundtrip_programs.Programs.{AreTables, IsProgram, ProgramsReadBack, NamesAreShown}
-use Rattle.pipsmake_base.specs.result_lines.declared.show.Show.{Show}
 use Rattle.laws_programs.specs.roundtrip_programs.Written.Laws.{by_tree}
-use Rattle.pipsmake_base.specs.laws_database.ProgramTexts.{lines_found}
-use Rattle.pips_top.specs.Shown.{results_of_program, lines_for}
+use Rattle.pips_top.specs.Shown.{results_of_program, lines_for, lines_found}
 use Rattle.pips_top.specs.Laws.{ReadWrittenBack}
 use Rattle.pips_top.specs.Program.{ProgramTree}
 use Rattle.pips_top.specs.ReadBack.{SameProgram}
 use Rattle.pips_top.specs.Reading.{lines_or, graph_or, linked_by, program_of, reading}
 use Rattle.pips_top.specs.Written.{written}
+use Rattle.pips_top.specs.declared.wanted.Wanted.{Wanted}
 use Rattle.pips_top.proofs.AddedLines.{all_said, all_over}
 use Rattle.pips_top.proofs.BlockNames.{modules_shown}
 use Rattle.pips_top.proofs.Programs.{Linked, linked_from, parsed_from, is_program}
@@ -61,12 +60,12 @@ is_read text p e =
 
 -- ---- what is written
 
-abbrev pub texts_shown : Show → List ModuleResults → List ParsedTree → List ℕ
-texts_shown show all ms = back.modules_text (by_tree (lines_found show all)) ms
+abbrev pub texts_shown : Wanted → Graph → List ModuleResults → List ParsedTree → List ℕ
+texts_shown show g all ms = back.modules_text (by_tree (lines_found show g all)) ms
 
-pub text_same : (show : Show) (all : List ModuleResults) (ms : List ParsedTree) → texts_shown show all ms ≡ back.modules_text (λ m. lines_for show all m.module_read.name) ms
-text_same show all [] = refl
-text_same show all (m ∷ ms) = ap (λ rest. back.text_of (by_tree (lines_found show all)) m ++ rest) (text_same show all ms)
+pub text_same : (show : Wanted) (g : Graph) (all : List ModuleResults) (ms : List ParsedTree) → texts_shown show g all ms ≡ back.modules_text (λ m. lines_for show g all m.module_read.name) ms
+text_same show g all [] = refl
+text_same show g all (m ∷ ms) = ap (λ rest. back.text_of (by_tree (lines_found show g all)) m ++ rest) (text_same show g all ms)
 
 -- ---- what is read of it
 
@@ -106,27 +105,27 @@ pub said_same : (p q : ProgramTree) → SameProgram p q → results_of_program q
 said_same p q same =
     ap₂ said_with (ap (known_of q.modules) same.tables ∙ known_same q.modules p.modules p.tables same.modules) same.graph
 
-written_twice : TextsAreWrittenAgain → (show : Show) (bytes : List ℕ) (p q : ProgramTree) → reading bytes ≡ Ok p → reading (written show p) ≡ Ok q → SameProgram p q
-    → AllPassedOver (λ m. lines_for show (results_of_program p) m.module_read.name) p.modules → written show q ≡ written show p
+written_twice : TextsAreWrittenAgain → (show : Wanted) (bytes : List ℕ) (p q : ProgramTree) → reading bytes ≡ Ok p → reading (written show p) ≡ Ok q → SameProgram p q
+    → AllPassedOver (λ m. lines_for show p.graph (results_of_program p) m.module_read.name) p.modules → written show q ≡ written show p
 written_twice law show bytes p q e f same over =
     let all = results_of_program p in
-    let added : ParsedTree → List Added = λ m. lines_for show all m.module_read.name in
-    let text = text_same show all p.modules in
+    let added : ParsedTree → List Added = λ m. lines_for show p.graph all m.module_read.name in
+    let text = text_same show p.graph all p.modules in
     let again = subst (λ t. back.IsReadAs t q.modules) text (is_read (written show p) q f).read in
-    ap (λ fs. texts_shown show fs q.modules) (said_same p q same)
-    ∙ text_same show all q.modules
-    ∙ law bytes p.modules q.modules added (is_read bytes p e).read over (λ m n k. ap (λ (t : ModuleTree). lines_for show all t.name) k) again
+    ap₂ (λ g fs. texts_shown show g fs q.modules) same.graph (said_same p q same)
+    ∙ text_same show p.graph all q.modules
+    ∙ law bytes p.modules q.modules added (is_read bytes p e).read over (λ m n k. ap (λ (t : ModuleTree). lines_for show p.graph all t.name) k) again
     ∙ sym text
 
-pub back_from : ProgramsReadBack → TextsAreWrittenAgain → LinesArePassedOver → AllRegionLinesPass → AllInLinesPass → AllOutLinesPass → MarkLinesArePassedOver → NamesAreShown → BlocksHaveAChain → ReadWrittenBack
-back_from programs texts lines on_regions on_ins on_outs on_marks names blocks show bytes p e =
+pub back_from : ProgramsReadBack → TextsAreWrittenAgain → LinesArePassedOver → AllRegionLinesPass → AllInLinesPass → AllOutLinesPass → LoopLinesArePassedOver → NamesAreShown → BlocksHaveAChain → ReadWrittenBack
+back_from programs texts lines on_regions on_ins on_outs on_loops names blocks show bytes p e =
     let is = is_read bytes p e in
     let i = is_program bytes p e in
     let shown = modules_shown names blocks p.modules p.tables (all_built i.lines p.modules i.parsed) i.tables in
     let all = results_of_program p in
-    let over = all_over lines show all (all_said on_regions on_ins on_outs on_marks p i.tables shown) p.modules in
-    let b = programs bytes p.modules p.tables p.graph (λ m. lines_for show all m.module_read.name) is over in
+    let over = all_over lines show p.graph all (all_said on_regions on_ins on_outs on_loops p i.tables shown) p.modules in
+    let b = programs bytes p.modules p.tables p.graph (λ m. lines_for show p.graph all m.module_read.name) is over in
     let q : ProgramTree = record { modules = b.again; tables = p.tables; graph = p.graph } in
-    let read = ap reading (text_same show all p.modules) ∙ reading_is (back.modules_text (λ m. lines_for show all m.module_read.name) p.modules) b.again p.tables p.graph b.program in
+    let read = ap reading (text_same show p.graph all p.modules) ∙ reading_is (back.modules_text (λ m. lines_for show p.graph all m.module_read.name) p.modules) b.again p.tables p.graph b.program in
     let same : SameProgram p q = record { modules = b.same; tables = refl; graph = refl } in
     (q, read, same, written_twice texts show bytes p q e read same over)

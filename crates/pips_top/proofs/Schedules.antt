@@ -1,10 +1,11 @@
 -- A program with one marked loop, run by two schedules, by computation: N=10, then DO 10 I=1,2 with K=I*I and A(I)=K+N in it and with PRIVATE(K), then PRINT *,A(1),A(2).
+-- And loops with REDUCTION(+:K) in which nothing is added to K.
 use Rattle.std.proofs.Common.{◌≡◌, ℕ, List, [], ◌∷◌, None, Some, true, false, if◌then◌else◌, nat_eq, refl, sym, ap, ◌∙◌, true≢false, ℤ, pos}
 use Rattle.std.specs.Prelude.{codes}
 use Rattle.f77_ast.specs.declared.decl.Scalar.TheVariants as scalar
-use Rattle.f77_ast.specs.declared.expr.BinaryOp.TheVariants.{Add, Mul}
+use Rattle.f77_ast.specs.declared.expr.BinaryOp.TheVariants.{Add, Mul, Gt}
 use Rattle.f77_ast.specs.Plain.{exprs_of}
-use Rattle.f77_ast.specs.Trees.{ExprTree, int, name, element, binary, stmt, assign, do_loop, loop, print}
+use Rattle.f77_ast.specs.Trees.{ExprTree, WhatTree, int, name, element, binary, stmt, assign, logical_if, do_loop, loop, print}
 use Rattle.f77_ast.specs.Store.{Int, Undefined, content, undefined}
 use Rattle.f77_ast.specs.Steps.{Shown, Value}
 use Rattle.f77_ast.specs.Plans.{Flow, Normal}
@@ -16,6 +17,7 @@ use Rattle.f77_meaning.specs.Linked.{program_of}
 use Rattle.f77_meaning.proofs.CaseWords.{bound, symbol, main_module, graph, stmts_of}
 use Rattle.laws_interleavings.specs.Marks.{Ended, Faulted, OutOfPicks, Parallel}
 use Rattle.laws_interleavings.specs.Sound.{may_lose_one_of, SameEnd}
+use Rattle.laws_interleavings.specs.Reductions.{Sum}
 use Rattle.laws_interleavings.specs.MarkedPrograms.{Directives, private_only, marked_run}
 use Rattle.f77_ast.proofs.Example.{i}
 use Rattle.f77_ast.proofs.ExampleLoops.{k}
@@ -150,3 +152,42 @@ int_is_a_type e = cc
 
 n_stays : SameEnd plain without_n → ⊥
 n_stays e = true≢false (sym (e.lost unit_of_n (λ t. int_is_a_type (ap (λ c. c.tag) (sym n_has_a_value) ∙ t)) refl))
+
+-- ---- K=5, then DO I=1,last with one statement and with REDUCTION(+:K), then PRINT *,K
+
+abbrev summing : ExprTree → WhatTree → Program
+summing last what = program_of
+    (main_module (codes "P")
+    (stmts_of (
+    stmt 1 None (assign k (int (pos 5)))
+    ∷ stmt 2 None (do_loop (loop (codes "I") (int (pos 1)) last None (stmts_of (stmt 3 None what ∷ []))))
+    ∷ stmt 5 None (print (exprs_of (k ∷ [])))
+    ∷ []))
+    (symbol (codes "I") scalar.Int [] (Local 1 0) false [] ∷ symbol (codes "K") scalar.Int [] (Local 2 0) false [] ∷ []) ∷ [])
+    (graph (codes "P" ∷ []) [] [])
+
+abbrev sum_of_k : Directives
+sum_of_k x s = if nat_eq s 2 then Some (record { private = []; reductions = record { name = codes "K"; op = Sum } ∷ [] }) else None
+
+abbrev five : List (List Shown)
+five = (Value (content Int (pos 5)) ∷ []) ∷ []
+
+-- no iteration
+abbrev empty : Parallel
+empty = marked_run (summing (int (pos 0)) (assign k (binary Add k i))) 0 sum_of_k ([] ∷ []) []
+
+empty_ends : empty.outcome ≡ Ended Normal
+empty_ends = refl
+
+empty_prints : empty.printed ≡ five
+empty_prints = refl
+
+-- IF (I.GT.5) K=K+I: no iteration writes its copy, so there is none to combine
+abbrev idle : Parallel
+idle = marked_run (summing (int (pos 2)) (logical_if (binary Gt i (int (pos 5))) (stmt 4 None (assign k (binary Add k i))))) 0 sum_of_k ([] ∷ []) []
+
+idle_ends : idle.outcome ≡ Ended Normal
+idle_ends = refl
+
+idle_prints : idle.printed ≡ five
+idle_prints = refl

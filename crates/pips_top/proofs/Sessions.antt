@@ -1,6 +1,7 @@
 -- What is written of a program that was read, and what a session prints, is sound.
-use Rattle.std.proofs.Common.{◌≡◌, ℕ, List, Option, Some, None, Ok, subst}
+use Rattle.std.proofs.Common.{◌≡◌, ℕ, List, ◌++◌, Option, Some, None, Ok, ap, sym, ◌∙◌, subst}
 use Rattle.pipsmake_base.specs.session_texts.declared.command.Command.{Command}
+use Rattle.pipsmake_base.specs.session_texts.Answers.{made_lines, text_with_count}
 use Rattle.laws_programs.specs.roundtrip_programs.Pieces.Joined.{joined_texts}
 use Rattle.pipsmake_base.specs.pipsmake_meaning.Texts.{tables_in}
 use Rattle.pipsmake_base.specs.laws_database.ProgramTexts.{texts_of, joined_modules}
@@ -14,7 +15,9 @@ use Rattle.pipsmake_base.specs.pipsmake_db.State.{State}
 use Rattle.pips_top.specs.Laws.{ReadClaimsHold, ReadAllSaid, ReadLinesMean, ReadWrittenBack, ReadClaimsBack, ReadMarkedBack, ReadRunsInterleaved, ReadSoundly, AnsweredSoundly}
 use Rattle.pips_top.specs.Program.{ProgramTree}
 use Rattle.pips_top.specs.Reading.{reading}
+use Rattle.pips_top.specs.Shown.{alone}
 use Rattle.pips_top.specs.Sound.{PrintBy}
+use Rattle.pips_top.proofs.Alone.{written_alone}
 use Rattle.pips_top.proofs.ReadBack.{reading_is}
 
 pub soundly_from : ReadClaimsHold → ReadAllSaid → ReadLinesMean → ReadWrittenBack → ReadClaimsBack → ReadMarkedBack → ReadRunsInterleaved → ReadSoundly
@@ -33,7 +36,8 @@ printed_from law show s None lines p =
     let bytes : List ℕ = joined_texts (texts_of s.texts) in
     let program : ProgramTree = record { modules = joined_modules s.texts; tables = tables_in s.texts; graph = p.graph } in
     let e : reading bytes ≡ Ok program = reading_is bytes (joined_modules s.texts) (tables_in s.texts) p.graph p.program in
-    record { program = program; as_program = e; sound = law show bytes program e; now = p.now; is = p.written }
+    let text : List ℕ → List ℕ = λ t. made_lines p.now ++ text_with_count t in
+    record { program = program; as_program = e; sound = law (alone show) bytes program e; now = p.now; is = p.written ∙ ap text (sym (written_alone show program)) }
 printed_from law show s (Some r) lines e = e
 
 pub answered_from : EachPrintIsTheProgram → ReadSoundly → AnsweredSoundly

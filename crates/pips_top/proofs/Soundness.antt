@@ -7,7 +7,7 @@ use Rattle.fx_base.specs.Sink.{appended}
 use Rattle.fx_base.specs.declared.store.Role.TheVariants.{Base as BaseRole}
 use Rattle.fx_base.specs.declared.store.Fetched.TheVariants as fetched
 use Rattle.f77_parser.specs.Gives.{Refused}
-use Rattle.pipsmake_base.specs.result_lines.declared.show.Show.{Show}
+use Rattle.pips_top.specs.declared.wanted.Wanted.{Wanted}
 use Rattle.pips_top.specs.Sample.{sample_program}
 use Rattle.pipsmake_base.specs.pipsmake_db.State.{first_state}
 use Rattle.pipsmake_base.specs.base_text.declared.base.Base.{Base}
@@ -32,7 +32,7 @@ use Rattle.pips_top.specs.declared.status.Status.TheVariants.{Done, Usage, Write
 use Rattle.pips_top.proofs.Endings.{told, got_within, ends_got, opened_from, ends_opened, ends_kept, ends_made}
 
 -- a text that is to be written is that of a program that was read
-made_from : (show : Show) (r : Result ProgramTree Refused) (text : List ℕ) → made_of show r ≡ Writes text
+made_from : (show : Wanted) (r : Result ProgramTree Refused) (text : List ℕ) → made_of show r ≡ Writes text
     → (p : ProgramTree) × (r ≡ Ok p) × (text ≡ written show p)
 made_from show (Ok p) text e = (p, refl, cc)
 made_from show (Err r) text e = cc
@@ -104,7 +104,7 @@ kept_files : (files new : Option Files) (held : Files) (name bytes : List ℕ) �
 kept_files files None held name bytes e others h = absurd (subst (λ f. OthersStay f None name) e others)
 kept_files files (Some own) held name bytes e others h = (subst (λ f. OthersStay f (Some own) name) e others, h)
 
-ends_written : (show : Show) (b : Base) (bytes : List ℕ) (m : Made) (defined text : List ℕ) (left : Base) (kept : List ℕ) → m ≡ Writes defined → WritesOver show b bytes text left
+ends_written : (show : Wanted) (b : Base) (bytes : List ℕ) (m : Made) (defined text : List ℕ) (left : Base) (kept : List ℕ) → m ≡ Writes defined → WritesOver show b bytes text left
     → kept_text left base_limit ≡ Some kept → EndsWrittenOver show b bytes m Done text (Some kept)
 ends_written show b bytes m defined text left kept e w k =
     subst (λ n. EndsWrittenOver show b bytes n Done text (Some kept)) (sym e) (text, left, w, ends_kept (kept_text left base_limit) kept text k)

@@ -29,6 +29,7 @@ use Rattle.pips_top.specs.declared.job.Opening.{Opening}
 use Rattle.pips_top.specs.declared.make.Made.{Made}
 use Rattle.pips_top.specs.declared.make.Made.TheVariants.{Writes, Refuses}
 use Rattle.pips_top.specs.declared.status.Status.{Status}
+use Rattle.pips_top.specs.declared.wanted.Wanted.{Wanted}
 use Rattle.pips_top.specs.declared.status.Status.TheVariants.{Done, Refused, Usage, NoInput, TooLong, BadBase, StaleBase}
 
 -- how a run ends: its status, the bytes on out, and the text that is kept under the name of its base, where one is
@@ -62,7 +63,7 @@ abbrev pub EndsAnsweredOver : Show → Base → List ℕ → Ending
 EndsAnsweredOver show b script status out kept = (text : List ℕ) × (left : Base) × AnswersOver show b script text left × EndsKept (kept_text left base_limit) text status out kept
 
 -- with the refusal of the input, or its program written
-abbrev pub EndsWrittenOver : Show → Base → List ℕ → Made → Ending
+abbrev pub EndsWrittenOver : Wanted → Base → List ℕ → Made → Ending
 EndsWrittenOver show b bytes (Refuses line code keyword) status out kept = EndsSilent (Refused line code) status out kept
 EndsWrittenOver show b bytes (Writes defined) status out kept =
     (text : List ℕ) × (left : Base) × WritesOver show b bytes text left × EndsKept (kept_text left base_limit) text status out kept

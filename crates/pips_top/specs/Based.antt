@@ -15,7 +15,6 @@ use Rattle.pipsmake_base.specs.pipsmake_db.AnswerTexts.{texts_at_end}
 use Rattle.pipsmake_base.specs.pipsmake_db.Calls.{key}
 use Rattle.pipsmake_base.specs.pipsmake_db.Outlines.{Outline, OutlinesScript}
 use Rattle.pipsmake_base.specs.pipsmake_db.Scripts.{AnswersScript}
-use Rattle.pipsmake_base.specs.pipsmake_db.Shown.{texts_from}
 use Rattle.pipsmake_base.specs.pipsmake_db.State.{State}
 use Rattle.pipsmake_base.specs.Bases.{empty_base}
 use Rattle.pipsmake_base.specs.Saved.{texts_in, keys_in, loaded_state, IsSaved}
@@ -23,8 +22,10 @@ use Rattle.pipsmake_base.specs.Saving.{module_of, stored_kinds, stored_keys}
 use Rattle.pipsmake_base.specs.Whole.{values_in, IsCompleteBase}
 use Rattle.pips_top.specs.Program.{ProgramTree}
 use Rattle.pips_top.specs.Reading.{reading}
+use Rattle.pips_top.specs.Kept.{texts_wanted}
 use Rattle.pips_top.specs.Sound.{IsSound, PrintsSoundly}
 use Rattle.pips_top.specs.Written.{written}
+use Rattle.pips_top.specs.declared.wanted.Wanted.{Wanted}
 
 -- the most bytes of a base
 abbrev pub base_limit : ℕ
@@ -87,7 +88,7 @@ all_keys (x ∷ xs) = map (λ k. key k x) stored_kinds ++ all_keys xs
 
 -- the program of the input is written over a base, which has its modules afterwards, with a result of each stored kind; where the base held only results of its own texts, the text is that of the program;
 -- where it holds results of the texts of the input, whatever these results are, they are written
-pub record WritesOver (show : Show) (b : Base) (bytes text : List ℕ) (left : Base) : Type 0 where
+pub record WritesOver (show : Wanted) (b : Base) (bytes text : List ℕ) (left : Base) : Type 0 where
   pub program : ProgramTree
   pub as_program : reading bytes ≡ Ok program
   pub sound : IsSound show program
@@ -95,6 +96,6 @@ pub record WritesOver (show : Show) (b : Base) (bytes text : List ℕ) (left : B
   pub split : source_modules bytes ≡ Ok sources
   pub modules : left.modules ≡ map module_of sources
   pub is : IsSaved b → text ≡ written show program
-  pub shows : IsCompleteBase b → SameTexts (texts_in b) sources → texts_from sources (values_in b) show (names_in sources) ≡ Some text
+  pub shows : IsCompleteBase b → SameTexts (texts_in b) sources → texts_wanted sources (values_in b) show (names_in sources) ≡ Some text
   pub keys : keys_in left ≡ all_keys (names_in sources)
   pub saved : IsSaved b → IsSaved left

@@ -7,22 +7,23 @@ use Rattle.f77_meaning.specs.Occurrences.{Occurrence}
 use Rattle.f77_meaning.specs.Claimed.{InEveryRun, InConformingRuns}
 use Rattle.pipsmake_base.specs.module_phases.ScalarPhases.{scope_of}
 use Rattle.pipsmake_base.specs.loop_marker.Results.{ModuleResults}
-use Rattle.pipsmake_base.specs.pipsmake_meaning.Definitions.{printed_of}
-use Rattle.pipsmake_base.specs.result_lines.Lines.{scalar_lines_of, region_lines_of, lines_of}
+use Rattle.pipsmake_base.specs.result_lines.Lines.{scalar_lines_of, region_lines_of}
+use Rattle.pipsmake_base.specs.privatizer.Functions.{module_functions}
 use Rattle.pipsmake_base.specs.result_lines.ShownMarks.{shown_marks}
 use Rattle.laws_analyses.specs.Claims.{AnalysisHolds}
 use Rattle.laws_lines.specs.Lines.{EachMeans}
 use Rattle.laws_analyses.specs.Regions.Claims.{RegionsHold}
 use Rattle.laws_marks.specs.InClaims.{InRegionsHold}
 use Rattle.laws_marks.specs.OutClaims.{OutRegionsHold}
+use Rattle.laws_marks.specs.Said.{reductions_of}
 use Rattle.laws_lines.specs.Regions.Laws.{SetsAreOver}
 use Rattle.laws_lines.specs.Regions.Lines.{AreRegionLines}
 use Rattle.pips_top.specs.Covered.{AreCovered}
-use Rattle.pips_top.specs.MarksRead.{AreMarksRead}
+use Rattle.pips_top.specs.MarksRead.{AreMarksRead, AreReductionsRead}
 use Rattle.pips_top.specs.Program.{ProgramTree}
 use Rattle.pips_top.specs.Said.{scalars_said}
-use Rattle.pips_top.specs.Shown.{results_of_program, lines_for}
-use Rattle.pipsmake_base.specs.result_lines.declared.show.Show.{Show}
+use Rattle.pips_top.specs.Shown.{results_of_program, lines_wanted, lines_for}
+use Rattle.pips_top.specs.declared.wanted.Wanted.{Wanted}
 
 -- ---- claims
 
@@ -64,15 +65,17 @@ SaysAll p = AreCovered (known_of p.modules p.tables) (results_of_program p)
 -- ---- lines
 
 -- lines are those of a module; each claim is read, by the names of the symbols, as just what was found there: a precondition, a transformer or, where no symbol is named PHI1 to PHI7, a region,
--- whose line says of all its systems together that rows were lost; there is one line for each region of a DO or a CALL and of the entry; each directive is read as the names of its private variables, without those of functions of which the module takes values
-pub record AreRead (show : Show) (f : ModuleResults) (lines : List Added) : Type 0 where
-  pub parts : lines ≡ lines_of show f.known (printed_of f)
+-- whose line says of all its systems together that rows were lost; there is one line for each region of a DO or a CALL and of the entry; each directive is read as the names of its private variables, without those of functions of which the module takes values,
+-- and one of a DO with reduction variables as its REDUCTION clauses too
+pub record AreRead (show : Wanted) (g : Graph) (f : ModuleResults) (lines : List Added) : Type 0 where
+  pub parts : lines ≡ lines_wanted show g f
   pub scalars : EachMeans (scalars_said f) (scalar_lines_of f.known f.transformers f.preconditions)
   pub regions : AreRegionLines f.known f.regions (region_lines_of f.known f.regions)
   pub ins : AreRegionLines f.known f.ins (region_lines_of f.known f.ins)
   pub outs : AreRegionLines f.known f.outs (region_lines_of f.known f.outs)
   pub marks : AreMarksRead (symbol_names f.known.symbols) (shown_marks f.known.read (symbol_names f.known.symbols) f.marks)
+  pub reductions : AreReductionsRead (module_functions f.known.read) (symbol_names f.known.symbols) (reductions_of show.reductions g f)
 
 -- and each line that is added to a module is one of these
-abbrev pub LinesMean : Show → ProgramTree → Type 0
-LinesMean show p = (j : ℕ) (f : ModuleResults) → slice_get (results_of_program p) j ≡ Some f → AreRead show f (lines_for show (results_of_program p) f.known.read.name)
+abbrev pub LinesMean : Wanted → ProgramTree → Type 0
+LinesMean show p = (j : ℕ) (f : ModuleResults) → slice_get (results_of_program p) j ≡ Some f → AreRead show p.graph f (lines_for show p.graph (results_of_program p) f.known.read.name)

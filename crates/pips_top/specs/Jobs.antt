@@ -13,15 +13,20 @@ use Rattle.pipsmake_base.specs.result_lines.declared.show.Show.TheVariants.{All,
 use Rattle.pips_top.specs.declared.job.Job.{Job}
 use Rattle.pips_top.specs.declared.job.Job.TheVariants.{Write, Answer, Count, WriteOver, AnswerOver}
 use Rattle.pips_top.specs.declared.job.Opening.{Opening}
+use Rattle.pips_top.specs.declared.wanted.Wanted.{Wanted}
 
 abbrev pub shown : Requested → Show
 shown requested.All = All
 shown requested.Bare = Bare
 shown requested.Why = Why
 
+-- what is wanted beside a program
+abbrev pub wanted_of : Request → Wanted
+wanted_of r = record { show = shown r.show; reductions = r.reductions }
+
 -- without a base
 abbrev pub does_alone : Request → Task → Job
-does_alone r task.Write = Write (shown r.show) r.input
+does_alone r task.Write = Write (wanted_of r) r.input
 does_alone r task.Session = Answer (shown r.show) r.input
 does_alone r (task.Generate parts) = Count parts
 
@@ -30,7 +35,7 @@ opening_of r name = record { name = name; verify = r.verify }
 
 -- with a base; a sample needs none
 abbrev pub does_over : Request → List ℕ → Task → Job
-does_over r name task.Write = WriteOver (shown r.show) r.input (opening_of r name)
+does_over r name task.Write = WriteOver (wanted_of r) r.input (opening_of r name)
 does_over r name task.Session = AnswerOver (shown r.show) r.input (opening_of r name)
 does_over r name (task.Generate parts) = Count parts
 
@@ -50,18 +55,18 @@ job_in words = option_map does (request_in (options_of words))
 
 -- the name of its INPUT
 abbrev pub input_in : Job → Option (List ℕ)
-input_in (Write show input) = Some input
+input_in (Write wanted input) = Some input
 input_in (Answer show input) = Some input
 input_in (Count parts) = None
-input_in (WriteOver show input opening) = Some input
+input_in (WriteOver wanted input opening) = Some input
 input_in (AnswerOver show input opening) = Some input
 
 -- its base
 abbrev pub opening_in : Job → Option Opening
-opening_in (Write show input) = None
+opening_in (Write wanted input) = None
 opening_in (Answer show input) = None
 opening_in (Count parts) = None
-opening_in (WriteOver show input opening) = Some opening
+opening_in (WriteOver wanted input opening) = Some opening
 opening_in (AnswerOver show input opening) = Some opening
 
 -- ---- of words

@@ -11,6 +11,7 @@ use Rattle.pipsmake_base.specs.pipsmake_meaning.Texts.{AreModules}
 use Rattle.pipsmake_base.specs.pipsmake_db.State.{State}
 use Rattle.pipsmake_base.specs.pipsmake_db.Scripts.{AnswersScript}
 use Rattle.pips_top.specs.Sound.{IsSound, PrintsSoundly}
+use Rattle.pips_top.specs.declared.wanted.Wanted.{Wanted}
 
 -- what is said of a program that was read is true of every run
 abbrev pub ReadClaimsHold : Type 0
@@ -22,27 +23,27 @@ ReadAllSaid = (bytes : List ℕ) (p : ProgramTree) → reading bytes ≡ Ok p �
 
 -- each line of it is read as just what was found
 abbrev pub ReadLinesMean : Type 0
-ReadLinesMean = (show : Show) (bytes : List ℕ) (p : ProgramTree) → reading bytes ≡ Ok p → LinesMean show p
+ReadLinesMean = (show : Wanted) (bytes : List ℕ) (p : ProgramTree) → reading bytes ≡ Ok p → LinesMean show p
 
 -- what is written of a program that was read is read again as the same program, and written as the same text
 abbrev pub ReadWrittenBack : Type 0
-ReadWrittenBack = (show : Show) (bytes : List ℕ) (p : ProgramTree) → reading bytes ≡ Ok p → ReadsBack show p
+ReadWrittenBack = (show : Wanted) (bytes : List ℕ) (p : ProgramTree) → reading bytes ≡ Ok p → ReadsBack show p
 
 -- and, with its claims, as that program with just the claims that are said of it
 abbrev pub ReadClaimsBack : Type 0
-ReadClaimsBack = (show : Show) (bytes : List ℕ) (p : ProgramTree) → reading bytes ≡ Ok p → ReadsClaims show p
+ReadClaimsBack = (show : Wanted) (bytes : List ℕ) (p : ProgramTree) → reading bytes ≡ Ok p → ReadsClaims show p
 
 -- and, with its directives, as that program with its parallel loops marked
 abbrev pub ReadMarkedBack : Type 0
-ReadMarkedBack = (show : Show) (bytes : List ℕ) (p : ProgramTree) → reading bytes ≡ Ok p → ReadsMarked show p
+ReadMarkedBack = (show : Wanted) (bytes : List ℕ) (p : ProgramTree) → reading bytes ≡ Ok p → ReadsMarked show p
 
 -- and this does as the program does, its marked loops interleaved
 abbrev pub ReadRunsInterleaved : Type 0
-ReadRunsInterleaved = (show : Show) (bytes : List ℕ) (p : ProgramTree) → reading bytes ≡ Ok p → (m : ReadsMarked show p) → RunsInterleaved show p m
+ReadRunsInterleaved = (show : Wanted) (bytes : List ℕ) (p : ProgramTree) → reading bytes ≡ Ok p → (m : ReadsMarked show p) → RunsInterleaved show p m
 
 -- so what is written of it is sound
 abbrev pub ReadSoundly : Type 0
-ReadSoundly = (show : Show) (bytes : List ℕ) (p : ProgramTree) → reading bytes ≡ Ok p → IsSound show p
+ReadSoundly = (show : Wanted) (bytes : List ℕ) (p : ProgramTree) → reading bytes ≡ Ok p → IsSound show p
 
 -- and so is each program that a session prints
 abbrev pub AnsweredSoundly : Type 0

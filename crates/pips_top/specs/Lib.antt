@@ -9,6 +9,8 @@ pub mod Written
 pub mod ReadBack
 pub mod MarkedText
 pub mod ClaimsRead
+pub mod Reduced
+pub mod Kept
 pub mod Sound
 pub mod Laws
 pub mod Counts
@@ -22,5 +24,7 @@ pub mod Run
 pub mod Replies
 pub mod Small
 pub mod SmallFunction
+pub mod SmallParallel
+pub mod SmallReduced
 pub mod ExampleLaws
 pub mod Sample

@@ -4,7 +4,7 @@ use Rattle.f77_ast.specs.DeclTrees.{ParsedTree}
 use Rattle.pips_top.specs.Program.{ProgramTree}
 use Rattle.pips_top.specs.Reading.{reading}
 use Rattle.pips_top.specs.Written.{written}
-use Rattle.pipsmake_base.specs.result_lines.declared.show.Show.{Show}
+use Rattle.pips_top.specs.declared.wanted.Wanted.{Wanted}
 
 -- the same modules, whatever the lines at which their statements stand, with the same tables and the same graph
 pub record SameProgram (p q : ProgramTree) : Type 0 where
@@ -13,5 +13,5 @@ pub record SameProgram (p q : ProgramTree) : Type 0 where
   pub graph : q.graph ≡ p.graph
 
 -- what is written of it, with the lines of what is said of it, is not refused, is the same program, and is written as the same text again
-abbrev pub ReadsBack : Show → ProgramTree → Type 0
+abbrev pub ReadsBack : Wanted → ProgramTree → Type 0
 ReadsBack show p = (q : ProgramTree) × (reading (written show p) ≡ Ok q) × SameProgram p q × (written show q ≡ written show p)

@@ -17,7 +17,6 @@ use Rattle.pipsmake_base.specs.pipsmake_db.declared.refusal.DbRefusal.{DbRefusal
 use Rattle.pipsmake_base.specs.pipsmake_db.declared.refusal.DbRefusal.TheVariants as db
 use Rattle.pipsmake_base.specs.laws_database.Stands.{Valuation}
 use Rattle.pipsmake_base.specs.pipsmake_db.Calls.{Rests}
-use Rattle.pipsmake_base.specs.pipsmake_db.Shown.{texts_from}
 use Rattle.pipsmake_base.specs.pipsmake_db.State.{State, first_state, IsIn, texts_of}
 use Rattle.pipsmake_base.specs.pipsmake_db.Scripts.{AnswersScript}
 use Rattle.pipsmake_base.specs.Current.{FreshIsCurrent}
@@ -29,6 +28,7 @@ use Rattle.pipsmake_base.specs.session_texts.Sources.{source_modules}
 use Rattle.pipsmake_base.specs.Saving.{module_of, stored_keys}
 use Rattle.pips_top.specs.Based.{base_limit, IsVerified, IsBaseOf, all_keys}
 use Rattle.pips_top.specs.Jobs.{HasJob}
+use Rattle.pips_top.specs.Kept.{texts_wanted}
 use Rattle.pips_top.specs.Made.{made, counted}
 use Rattle.pips_top.specs.Program.{ProgramTree}
 use Rattle.pips_top.specs.Reading.{reading}
@@ -43,6 +43,7 @@ use Rattle.pips_top.specs.declared.make.Made.TheVariants.{Writes, Refuses}
 use Rattle.pips_top.specs.declared.reply.Reply.{Reply}
 use Rattle.pips_top.specs.declared.reply.Reply.TheVariants.{Writing, Stopping, NoMemory}
 use Rattle.pips_top.specs.declared.status.Status.{Status}
+use Rattle.pips_top.specs.declared.wanted.Wanted.{Wanted}
 use Rattle.pips_top.specs.declared.status.Status.TheVariants.{Refused, NoInput, TooLong, ReadFault, BadBase, StaleBase, BaseFault}
 
 -- a session without texts answers a script so
@@ -196,25 +197,25 @@ KeptWith old new name d text NoMemory = Untouched old new
 -- ---- a program over a database
 
 -- a state of the database leads to one of the new one, in which each fresh result is up to date and all stored ones are fresh, with the text of the program
-pub record PrintsFrom (show : Show) (program : ProgramTree) (text : List ℕ) (e : Db) : Type 0 where
+pub record PrintsFrom (show : Wanted) (program : ProgramTree) (text : List ℕ) (e : Db) : Type 0 where
   pub next : State
   pub is_in : IsIn e next
   pub current : FreshIsCurrent next
   pub is : text ≡ written show program
 
 -- the program of a text takes the place of the texts of a database, and is printed from each state of that; where the texts are the same, with the stored results on which it rests
-pub record PrintsOver (show : Show) (bytes text : List ℕ) (d e : Db) : Type 0 where
+pub record PrintsOver (show : Wanted) (bytes text : List ℕ) (d e : Db) : Type 0 where
   pub program : ProgramTree
   pub as_program : reading bytes ≡ Ok program
   pub sources : List ModuleText
   pub split : source_modules bytes ≡ Ok sources
   pub texts : texts_of e ≡ sources
   pub all : stored_keys e.fresh (names_in (texts_of e)) ≡ all_keys (names_in (texts_of e))
-  pub rests : (stored : Valuation) → Rests d stored → SameTexts (texts_of d) sources → texts_from sources stored show (names_in sources) ≡ Some text
+  pub rests : (stored : Valuation) → Rests d stored → SameTexts (texts_of d) sources → texts_wanted sources stored show (names_in sources) ≡ Some text
   pub from : (s : State) → IsIn d s → PrintsFrom show program text e
 
 -- or it is refused, as a whole
-abbrev pub PrintsWhole : Show → List ℕ → Db → Db → Made → Type 0
+abbrev pub PrintsWhole : Wanted → List ℕ → Db → Db → Made → Type 0
 PrintsWhole show bytes d e (Refuses line code keyword) = made show bytes ≡ Refuses line code keyword
 PrintsWhole show bytes d e (Writes text) = PrintsOver show bytes text d e
 

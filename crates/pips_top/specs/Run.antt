@@ -37,6 +37,7 @@ use Rattle.pips_top.specs.declared.job.Job.TheVariants.{Write, Answer, Count, Wr
 use Rattle.pips_top.specs.declared.job.Opening.{Opening}
 use Rattle.pips_top.specs.declared.make.Made.TheVariants.{Refuses}
 use Rattle.pips_top.specs.declared.status.Status.{Status}
+use Rattle.pips_top.specs.declared.wanted.Wanted.{Wanted}
 use Rattle.pips_top.specs.declared.status.Status.TheVariants.{Done, Refused, Usage, NoInput, TooLong, ReadFault, WriteFault, BadBase, StaleBase, BaseFault, Memory}
 
 -- a store at one moment: the held files, where they are told, and the counts
@@ -171,7 +172,7 @@ abbrev pub Gains : Option (List ℕ) → Option (List ℕ) → ℕ → ℕ → L
 Gains old new before after text = (new ≡ appended old text) ⊎ ((n : ℕ) × (n ≤ length text) × (new ≡ appended old (take n text)) × Rose before after)
 
 -- the bytes of the input were read as a program, and its text, which is sound, is written
-pub record Writes (show : Show) (input : List ℕ) (old new : Stored) (text : List ℕ) : Type 0 where
+pub record Writes (show : Wanted) (input : List ℕ) (old new : Stored) (text : List ℕ) : Type 0 where
   pub bytes : List ℕ
   pub got : FetchesInput old new (fetched.Got bytes) input
   pub program : ProgramTree

@@ -1,17 +1,37 @@
 -- What is found of the modules of a program, and the lines that show it.
-use Rattle.std.specs.Prelude.{ℕ, List}
+use Rattle.std.specs.Prelude.{ℕ, false, List, [], Option, Some, None}
+use Rattle.f77_ast.specs.DeclTrees.{ModuleTree}
 use Rattle.f77_printer.specs.declared.added.Added.{Added}
+use Rattle.call_graph.specs.declared.graph.Graph.{Graph}
 use Rattle.f77_meaning.specs.Modules.{known_of}
 use Rattle.pipsmake_base.specs.loop_marker.Results.{ModuleResults}
+use Rattle.pipsmake_base.specs.result_lines.ReductionLines.{reduced_lines_of}
 use Rattle.pipsmake_base.specs.result_lines.declared.show.Show.{Show}
 use Rattle.pipsmake_base.specs.pipsmake_meaning.ResultEntries.{results_of_modules, results_for}
-use Rattle.pipsmake_base.specs.laws_database.ProgramTexts.{lines_with}
+use Rattle.pipsmake_base.specs.pipsmake_meaning.Definitions.{printed_of}
+use Rattle.laws_marks.specs.Said.{reductions_of}
 use Rattle.pips_top.specs.Program.{ProgramTree}
+use Rattle.pips_top.specs.declared.wanted.Wanted.{Wanted}
 
 -- the analyses of all modules: of tracked cells, the READ and WRITE, IN and OUT regions, and the marks of loops
 abbrev pub results_of_program : ProgramTree → List ModuleResults
 results_of_program p = results_of_modules (known_of p.modules p.tables) p.graph
 
+-- without reduction variables
+abbrev pub alone : Show → Wanted
+alone s = record { show = s; reductions = false }
+
+-- the lines that are wanted beside a module
+abbrev pub lines_wanted : Wanted → Graph → ModuleResults → List Added
+lines_wanted w g f = reduced_lines_of w.show f.known (printed_of f) (reductions_of w.reductions g f)
+
+abbrev pub lines_with : Wanted → Graph → Option ModuleResults → List Added
+lines_with w g None = []
+lines_with w g (Some f) = lines_wanted w g f
+
 -- the lines that are added to the module of a name
-abbrev pub lines_for : Show → List ModuleResults → List ℕ → List Added
-lines_for show fs x = lines_with show (results_for fs x)
+abbrev pub lines_for : Wanted → Graph → List ModuleResults → List ℕ → List Added
+lines_for w g fs x = lines_with w g (results_for fs x)
+
+abbrev pub lines_found : Wanted → Graph → List ModuleResults → ModuleTree → List Added
+lines_found w g fs m = lines_for w g fs m.name

@@ -20,12 +20,14 @@ use Rattle.pips_top.specs.MarkedText.{ReadsMarked, RunsInterleaved}
 use Rattle.pips_top.specs.Program.{ProgramTree}
 use Rattle.pips_top.specs.ReadBack.{ReadsBack}
 use Rattle.pips_top.specs.Reading.{reading}
+use Rattle.pips_top.specs.Shown.{alone}
 use Rattle.pips_top.specs.Written.{written}
+use Rattle.pips_top.specs.declared.wanted.Wanted.{Wanted}
 
 -- what is written of a program with what is said of it: this is true of every run and leaves nothing out, each line is read as just what is said, the text is read again as the same program,
 -- with just these claims in its bytes, each before its part,
 -- and with its directives as that program with just the parallel loops marked that were found, which does as the program does, these loops interleaved anyhow
-pub record IsSound (show : Show) (p : ProgramTree) : Type 0 where
+pub record IsSound (show : Wanted) (p : ProgramTree) : Type 0 where
   pub claims : ClaimsHold p
   pub whole : SaysAll p
   pub lines : LinesMean show p
@@ -40,9 +42,9 @@ pub record IsSound (show : Show) (p : ProgramTree) : Type 0 where
 pub record PrintsProgram (show : Show) (ts : List ModuleText) (lines : List ℕ) : Type 0 where
   pub program : ProgramTree
   pub as_program : reading (joined_texts (texts_of ts)) ≡ Ok program
-  pub sound : IsSound show program
+  pub sound : IsSound (alone show) program
   pub now : List Key
-  pub is : lines ≡ made_lines now ++ text_with_count (written show program)
+  pub is : lines ≡ made_lines now ++ text_with_count (written (alone show) program)
 
 -- or they do not link, and one line says so
 abbrev pub PrintBy : Show → List ModuleText → Option DbRefusal → List ℕ → Type 0

@@ -1,7 +1,8 @@
 //! What a run does, by the words after the program's name.
 ghost use Rattle.std.specs.Prelude.{◌≡◌};
-ghost use Rattle.pips_top.specs.Jobs.{JobBy, does, shown};
+ghost use Rattle.pips_top.specs.Jobs.{JobBy, does, shown, wanted_of};
 
+use crate::wanted::Wanted;
 use command_words::{Request, Task, request_of};
 use fx_base::Words;
 use fx_lists::Text;
@@ -20,14 +21,14 @@ pub struct Opening {
 /// What a run does.
 #[derive(Drop)]
 pub enum Job {
-    /// The program of an INPUT is written, with what is shown of it. The INPUT `-` is standard input.
-    Write(Show, Text),
+    /// The program of an INPUT is written, with what is wanted beside it. The INPUT `-` is standard input.
+    Write(Wanted, Text),
     /// The commands of the script of an INPUT are answered.
     Answer(Show, Text),
     /// The sample program of this many parts is analysed and counted.
     Count(u8),
     /// As `Write`, over a base.
-    WriteOver(Show, Text, Opening),
+    WriteOver(Wanted, Text, Opening),
     /// As `Answer`, over a base.
     AnswerOver(Show, Text, Opening),
 }
@@ -52,17 +53,19 @@ fn does(request: Request) -> Job
         show,
         base,
         verify,
+        reductions,
         input,
     } = request;
     let show = shown(show);
+    let wanted = Wanted { show, reductions };
     match base {
         None => match task {
-            Task::Write => Job::Write(show, input),
+            Task::Write => Job::Write(wanted, input),
             Task::Session => Job::Answer(show, input),
             Task::Generate(parts) => Job::Count(parts),
         },
         Some(name) => match task {
-            Task::Write => Job::WriteOver(show, input, Opening { name, verify }),
+            Task::Write => Job::WriteOver(wanted, input, Opening { name, verify }),
             Task::Session => Job::AnswerOver(show, input, Opening { name, verify }),
             Task::Generate(parts) => Job::Count(parts),
         },

@@ -5,8 +5,8 @@ use laws_analyses::{analyses_are_whole, read_analyses_hold, read_regions_hold};
 use laws_lines::{
     all_in_lines_pass, all_out_lines_pass, all_region_lines_pass, analyses_are_read_back,
     claims_read_back, directives_read_back, in_lines_mean_regions, ins_are_over_places,
-    mark_lines_are_passed_over, marks_read_back, names_are_words, obstacles_are_no_directives,
-    out_lines_mean_regions, outs_are_over_places, region_lines_mean_regions,
+    loop_lines_are_passed_over, marks_read_back, names_are_words, obstacles_are_no_directives,
+    out_lines_mean_regions, outs_are_over_places, reductions_read_back, region_lines_mean_regions,
     regions_are_over_places, texts_are_written_again,
 };
 use laws_marks::{read_ins_hold, read_outs_hold, read_runs_do_as_plain};
@@ -51,6 +51,7 @@ fn lines_mean_results()
     in_lines_mean_regions();
     out_lines_mean_regions();
     directives_read_back();
+    reductions_read_back();
     obstacles_are_no_directives();
 }
 
@@ -64,7 +65,7 @@ fn written_reads_back()
     all_region_lines_pass();
     all_in_lines_pass();
     all_out_lines_pass();
-    mark_lines_are_passed_over();
+    loop_lines_are_passed_over();
     names_are_shown();
     blocks_have_a_chain();
 }
@@ -78,13 +79,13 @@ fn written_reads_claims()
     all_region_lines_pass();
     all_in_lines_pass();
     all_out_lines_pass();
-    mark_lines_are_passed_over();
+    loop_lines_are_passed_over();
     names_are_shown();
     blocks_have_a_chain();
     written_reads_back();
 }
 
-/// What is written of a program that was read is read, with its directives, as that program with just its parallel loops marked.
+/// What is written of a program that was read is read, with its directives and their clauses, as that program with just its parallel loops marked.
 fn written_reads_marked()
     ensures { ReadMarkedBack }
 {
@@ -95,14 +96,14 @@ fn written_reads_marked()
     all_region_lines_pass();
     all_in_lines_pass();
     all_out_lines_pass();
-    mark_lines_are_passed_over();
+    loop_lines_are_passed_over();
     names_are_shown();
     blocks_have_a_chain();
     written_reads_back();
 }
 
-/// And this program does as the one that was read: in each run that comes to its end without a fault, its marked loops interleaved by whatever schedule, it never faults, and
-/// ends with the same output and the same readable variables, but for copies.
+/// And this program does as the one that was read: in each run that comes to its end without a fault, its marked loops interleaved by whatever schedule, and the copies of
+/// their reduction variables combined in whatever order, it never faults, and ends with the same output and the same readable variables, but for copies.
 fn written_runs_interleaved()
     ensures { ReadRunsInterleaved }
 {

@@ -5,10 +5,10 @@ ghost use Rattle.pips_top.specs.Made.{counted, made, input_limit};
 use crate::counts::count_program;
 use crate::reading::read;
 use crate::sample_program;
+use crate::wanted::Wanted;
 use crate::written::write_program;
 use f77_parser::ParseRefusal;
 use fx_lists::Text;
-use pipsmake_base::result_lines::Show;
 use std::alloc::{AllocError as Memory, Global};
 
 /// What becomes of a text.
@@ -20,13 +20,13 @@ pub enum Made {
     Refuses(u32, u32, Text),
 }
 
-/// Reads a text of at most 2^20 bytes, analyses its program as `show` needs it, and makes the text to be written, or the refusal.
-pub fn make(alloc: Global, show: Show, text: &Text) -> Result<Made, Memory>
+/// Reads a text of at most 2^20 bytes, analyses its program, and makes the text to be written, or the refusal.
+pub fn make(alloc: Global, wanted: Wanted, text: &Text) -> Result<Made, Memory>
     requires { length text.now ≤ input_limit }
-    ensures { IfOk result (λ m. m ≡ made show text.now) }
+    ensures { IfOk result (λ m. m ≡ made wanted text.now) }
 {
     match read(alloc, text) {
-        Ok(program) => Ok(Made::Writes(write_program(alloc, show, &program)?)),
+        Ok(program) => Ok(Made::Writes(write_program(alloc, wanted, &program)?)),
         Err(ParseRefusal::At(line, code, keyword)) => Ok(Made::Refuses(line, code, keyword)),
         Err(ParseRefusal::Memory) => Err(Memory),
     }

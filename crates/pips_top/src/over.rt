@@ -15,6 +15,7 @@ use crate::make::Made;
 use crate::reply::{Reply, stopping};
 use crate::session::print_over;
 use crate::status::{naming_line, refusal_line};
+use crate::wanted::Wanted;
 use fx_base::{Fetched, Role, Store};
 use fx_lists::Text;
 use pipsmake_base::pipsmake_db::{Db, answer_script};
@@ -127,14 +128,14 @@ pub fn reply_to_script_over<F: Store>(
 /// Writes the program of an INPUT over a base.
 pub fn reply_to_program_over<F: Store>(
     alloc: Global,
-    show: Show,
+    wanted: Wanted,
     input: &Text,
     opening: &Opening,
     files: &mut F,
 ) -> Reply
     ensures answer { let old : Stored = record { files = F.files files.old; counts = F.counts files.old } in
         let new : Stored = record { files = F.files files.new; counts = F.counts files.new } in
-        RepliesFor (WriteOver show input.now opening.now) old new result }
+        RepliesFor (WriteOver wanted input.now opening.now) old new result }
     ensures counts { (r : Role) → NoneFalls (F.counts files.old r) (F.counts files.new r) }
 {
     written_is_sound();
@@ -142,7 +143,7 @@ pub fn reply_to_program_over<F: Store>(
         Ok(found) => found,
         Err(reply) => return reply,
     };
-    match print_over(alloc, &mut db, show, &text) {
+    match print_over(alloc, &mut db, wanted, &text) {
         Ok(Made::Writes(text)) => keep_and_write(alloc, &db, opening, text, files),
         Ok(Made::Refuses(line, code, keyword)) => stopping(
             Status::Refused(line, code),

@@ -14,6 +14,7 @@ use crate::make::{Made, count_sample, make};
 use crate::over::{reply_to_program_over, reply_to_script_over};
 use crate::session::answer_first;
 use crate::status::{naming_line, refusal_line, usage_line};
+use crate::wanted::Wanted;
 use fx_base::{Fetched, Role, Store, Words};
 use fx_lists::Text;
 use pipsmake_base::result_lines::Show;
@@ -53,15 +54,15 @@ pub fn reply_with(alloc: Global, made: Made) -> Reply
 }
 
 /// Fetches the INPUT of a name, of at most 2^20 bytes, and makes the text to be written of its program.
-fn reply_to_program<F: Store>(alloc: Global, show: Show, name: &Text, files: &mut F) -> Reply
+fn reply_to_program<F: Store>(alloc: Global, wanted: Wanted, name: &Text, files: &mut F) -> Reply
     ensures answer { let old : Stored = record { files = F.files files.old; counts = F.counts files.old } in
         let new : Stored = record { files = F.files files.new; counts = F.counts files.new } in
-        RepliesFor (Write show name.now) old new result }
+        RepliesFor (Write wanted name.now) old new result }
     ensures files { F.files files.new ≡ F.files files.old }
     ensures counts { OnlyCounts (F.counts files.old) (F.counts files.new) Input }
 {
     match files.fetch(alloc, Role::Input, name, 1_048_576) {
-        Fetched::Got(text) => match make(alloc, show, &text) {
+        Fetched::Got(text) => match make(alloc, wanted, &text) {
             Ok(made) => reply_with(alloc, made),
             Err(_) => Reply::NoMemory,
         },
@@ -130,11 +131,11 @@ pub fn reply_to<F: Store>(alloc: Global, words: &Words, files: &mut F) -> Reply
         CountsBy (job_in words.now) old new }
 {
     match job_of(alloc, words) {
-        Ok(Some(Job::Write(show, name))) => reply_to_program(alloc, show, &name, files),
+        Ok(Some(Job::Write(wanted, name))) => reply_to_program(alloc, wanted, &name, files),
         Ok(Some(Job::Answer(show, name))) => reply_to_script(alloc, show, &name, files),
         Ok(Some(Job::Count(parts))) => reply_to_count(alloc, parts),
-        Ok(Some(Job::WriteOver(show, name, opening))) => {
-            reply_to_program_over(alloc, show, &name, &opening, files)
+        Ok(Some(Job::WriteOver(wanted, name, opening))) => {
+            reply_to_program_over(alloc, wanted, &name, &opening, files)
         }
         Ok(Some(Job::AnswerOver(show, name, opening))) => {
             reply_to_script_over(alloc, show, &name, &opening, files)

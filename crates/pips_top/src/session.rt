@@ -3,8 +3,11 @@ ghost use Rattle.std.specs.Prelude.{◌≤◌, length, IfOk};
 ghost use Rattle.pips_top.specs.Made.{input_limit};
 ghost use Rattle.pips_top.specs.Replies.{AnswersFirst, PrintsWhole, RefusedBy};
 
+use crate::kept::reduced_text;
 use crate::make::Made;
+use crate::wanted::Wanted;
 use fx_lists::Text;
+use laws_programs::roundtrip_programs::{graphs_ignore_places, tables_ignore_places};
 use pipsmake_base::laws_database::{accepted_is_split, linked_alike, linked_is_accepted};
 use pipsmake_base::making_stays_current;
 use pipsmake_base::pipsmake_db::{Db, DbRefusal, Prints, answer_script, print_all};
@@ -39,14 +42,16 @@ fn refused(alloc: Global, refusal: DbRefusal) -> Result<Made, Memory>
 }
 
 /// The program of a text of at most 2^20 bytes takes the place of all texts of a database, and is written from what is kept: its text, or its first refusal.
-pub fn print_over(alloc: Global, db: &mut Db, show: Show, text: &Text) -> Result<Made, Memory>
+pub fn print_over(alloc: Global, db: &mut Db, wanted: Wanted, text: &Text) -> Result<Made, Memory>
     requires { length text.now ≤ input_limit }
-    ensures { IfOk result (PrintsWhole show text.now db.old db.new) }
+    ensures { IfOk result (PrintsWhole wanted text.now db.old db.new) }
 {
     accepted_is_split();
     linked_alike();
     linked_is_accepted();
     making_stays_current();
+    tables_ignore_places();
+    graphs_ignore_places();
     match db.replace_all(alloc, text) {
         Ok(_) => {}
         Err(refusal) => return refused(alloc, refusal),
@@ -55,6 +60,10 @@ pub fn print_over(alloc: Global, db: &mut Db, show: Show, text: &Text) -> Result
         Ok(()) => {}
         Err(refusal) => return refused(alloc, refusal),
     }
-    let Prints { made: _made, text } = print_all(alloc, db, show)?;
+    let Prints { made: _made, text } = print_all(alloc, db, wanted.show)?;
+    if wanted.reductions {
+        let text = reduced_text(alloc, db, wanted.show)?;
+        return Ok(Made::Writes(text));
+    }
     Ok(Made::Writes(text))
 }

@@ -45,7 +45,7 @@ rests_kept old new ts d x t is keeps r = record {
 -- ---- several texts
 
 -- each of these is the text of its name
-abbrev AreThere : List ModuleText → List ModuleText → Type 0
+abbrev pub AreThere : List ModuleText → List ModuleText → Type 0
 AreThere ts [] = Unit {0}
 AreThere ts (u ∷ us) = (text_of ts u.name ≡ Some u.text) × AreThere ts us
 
@@ -57,7 +57,7 @@ there_later : (t : ModuleText) (ts us : List ModuleText) → AllByRecursion (λ 
 there_later t ts [] d a = tt
 there_later t ts (u ∷ us) d a = (ap (λ b. if b then Some t.text else text_of ts u.name) d.0 ∙ a.0, there_later t ts us d.1 a.1)
 
-all_there : (us : List ModuleText) → NamesDiffer us → AreThere us us
+pub all_there : (us : List ModuleText) → NamesDiffer us → AreThere us us
 unfolding IsDistinct
 all_there [] d = tt
 all_there (u ∷ us) d = (ap (λ b. if b then Some u.text else text_of us u.name) ((bytes_decides u.name u.name).1 refl), there_later u us us d.0 (all_there us d.1))
@@ -70,7 +70,7 @@ there_too ts us f (v ∷ vs) a = (f v.name v.text a.0, there_too ts us f vs a.1)
 
 -- ---- names that go
 
-abbrev HasEach : List (List ℕ) → List (List ℕ) → Type 0
+abbrev pub HasEach : List (List ℕ) → List (List ℕ) → Type 0
 HasEach all [] = Unit {0}
 HasEach all (x ∷ xs) = (has_name all x ≡ true) × HasEach all xs
 
@@ -78,7 +78,7 @@ has_later : (y : List ℕ) (all xs : List (List ℕ)) → HasEach all xs → Has
 has_later y all [] h = tt
 has_later y all (x ∷ xs) h = (or_right (bytes_eq y x) (has_name all x) h.0, has_later y all xs h.1)
 
-has_each : (xs : List (List ℕ)) → HasEach xs xs
+pub has_each : (xs : List (List ℕ)) → HasEach xs xs
 has_each [] = tt
 has_each (x ∷ xs) = (or_left (bytes_eq x x) (has_name xs x) ((bytes_decides x x).1 refl), has_later x xs xs (has_each xs))
 

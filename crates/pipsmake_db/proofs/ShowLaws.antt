@@ -106,7 +106,7 @@ module _ (sh : MemoCells) (ts : List ModuleText) (stored : Valuation) (rests : R
       let has : HasValue sh ts (value_with ts stored) (key k x) there.0 = subst (λ o. IfSome o (λ kept. HasValue sh ts (value_with ts stored) (key k x) kept)) there.1 (rests.keeps.kept k x) in
       ap (value_under (sh (result k) x).values) there.1 ∙ has.at ∙ sym has.is ∙ stored_with ts stored k x s
 
-  all_kept : kept_results sh x ≡ stored_results stored x
+  pub all_kept : kept_results sh x ≡ stored_results stored x
   all_kept =
       λ i. results_from (option_and_then transformers_in (stored_kept kind.Transformers tt i)) (option_and_then preconditions_in (stored_kept kind.Preconditions tt i)) (option_and_then regions_in (stored_kept kind.Regions tt i))
       (option_and_then ins_in (stored_kept kind.InRegions tt i)) (option_and_then outs_in (stored_kept kind.OutRegions tt i)) (option_and_then marks_in (stored_kept kind.Marks tt i))

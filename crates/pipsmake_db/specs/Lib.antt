@@ -28,3 +28,4 @@ pub mod AnswerTexts
 pub mod AnswerSteps
 pub mod AnswerLaws
 pub mod SmallSession
+pub mod KeptModules

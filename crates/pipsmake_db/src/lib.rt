@@ -6,6 +6,7 @@ mod bring;
 mod command;
 mod db;
 mod fresh;
+mod kept;
 mod laws;
 mod linked;
 mod make;
@@ -24,6 +25,7 @@ pub use call_equations;
 pub use command::answer_command;
 pub use db::{Db, Shown};
 pub use fresh::copy_key;
+pub use kept::KeptModule;
 pub use laws::{
     answers_are_unique, each_print_is_the_program, small_session_is_answered, texts_stay_modules,
 };

@@ -1,5 +1,5 @@
 //! The present texts, and their links, which are kept while the texts stay.
-ghost use Rattle.std.specs.Prelude.{◌≡◌, [], Ok, Err, None, map, slice_get, IfOk, IfErr, OnOk, OnErr, is_ok};
+ghost use Rattle.std.specs.Prelude.{◌≡◌, [], Ok, Err, None, map, slice_get, IfOk, IfErr, IfSome, OnOk, OnErr, is_ok};
 ghost use Rattle.call_graph.specs.Faults.{Gives};
 ghost use Rattle.session_texts.specs.pipsmake_meaning.Texts.{names_in, links_in};
 ghost use Rattle.session_texts.specs.Changes.{replaced, without};
@@ -60,6 +60,13 @@ impl Linked {
         ensures { result.now ≡ self.now }
     {
         &self.sources
+    }
+
+    /// The graph, where it is known. Takes no memory.
+    pub fn graph(&self) -> Option<&Graph>
+        ensures { IfSome result (λ g. links_in self.now ≡ Ok g.now) }
+    {
+        self.graph.as_ref()
     }
 
     /// Each text takes the place of the one of its name, or is added at the end. Err leaves all as it was.

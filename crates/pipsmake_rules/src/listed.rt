@@ -4,6 +4,7 @@ ghost use Rattle.f77_ast.specs.Symbols.{number_from};
 ghost use Rattle.pipsmake_rules.specs.Keys.{holds, code_of};
 
 use crate::key::{Key, code_of};
+use crate::kind::Kind;
 use f77_ast::NameIndex;
 use fx_lists::{List, Text};
 use std::alloc::{AllocError as Memory, Global};
@@ -55,6 +56,20 @@ impl Listed {
         let code = code_of(alloc, key)?;
         let place = self.place(&code);
         Ok(place.is_some())
+    }
+
+    /// Whether the result of a kind and a name is there. Takes no memory; all are looked at.
+    pub fn lists(&self, kind: Kind, name: &[u8]) -> bool
+        ensures { result ≡ holds self.now (record { kind = kind; name = name.now }) }
+    {
+        let mut rest = self.keys.as_slice();
+        while let [key, more @ ..] = rest {
+            if key.kind == kind && key.name.as_slice() == name {
+                return true;
+            }
+            rest = more;
+        }
+        false
     }
 
     /// Adds a result at the end. Err also where there are 2^32 - 1.

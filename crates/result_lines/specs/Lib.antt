@@ -6,3 +6,5 @@ pub mod MarkLines
 pub mod ShownMarks
 pub mod RegionLines
 pub mod RegionSpots
+pub mod ReductionText
+pub mod ReductionLines

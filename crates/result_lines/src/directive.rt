@@ -2,7 +2,9 @@
 ghost use Rattle.std.specs.Prelude.{◌≡◌, ◌++◌, map, IfOk, codes};
 ghost use Rattle.system_text.specs.SystemText.{name_at, joined};
 ghost use Rattle.result_lines.specs.MarkText.{private_clause, directive_text as directive_text_is, directive_lines as directive_lines_is};
+ghost use Rattle.result_lines.specs.ReductionText.{op_word as op_word_is, reduction_clause, reduction_clauses, reduction_text as reduction_text_is};
 
+use crate::reduction::{Part, ReduceOp};
 use f77_ast::Variable;
 use fx_lists::{List, Text};
 use region_sets::put_variable;
@@ -44,6 +46,53 @@ pub fn directive_text(alloc: Global, names: &[Text], numbers: &[u32]) -> Result<
 {
     let mut text = Text::from_bytes(alloc, b"PARALLEL DO")?;
     put_private(&mut text, names, numbers)?;
+    Ok(text)
+}
+
+/// The word of an operator in a REDUCTION clause.
+fn op_word(op: ReduceOp) -> &'static [u8]
+    ensures { result.now ≡ op_word_is op }
+{
+    match op {
+        ReduceOp::Sum => b"+",
+        ReduceOp::Max => b"MAX",
+        ReduceOp::Min => b"MIN",
+        ReduceOp::And => b".AND.",
+        ReduceOp::Or => b".OR.",
+    }
+}
+
+fn put_reduction(out: &mut Text, names: &[Text], part: &Part) -> Result<(), Memory>
+    ensures { IfOk result (λ _. out.new ≡ out.old ++ reduction_clause names.now part.now) }
+{
+    out.append(b" REDUCTION(")?;
+    out.append(op_word(part.op))?;
+    out.append(b":")?;
+    put_variable(out, names, &Variable::Own(part.cell))?;
+    out.append(b")")
+}
+
+#[tactic(auto, using(crate::proofs::Steps::lines))]
+fn put_reductions(out: &mut Text, names: &[Text], parts: &[Part]) -> Result<(), Memory>
+    ensures { IfOk result (λ _. out.new ≡ out.old ++ reduction_clauses names.now parts.now) }
+{
+    for part in parts {
+        put_reduction(out, names, part)?;
+    }
+    Ok(())
+}
+
+/// The text of the directive of a loop with these reduction variables: the clauses come after PRIVATE.
+pub fn reduction_text(
+    alloc: Global,
+    names: &[Text],
+    numbers: &[u32],
+    parts: &[Part],
+) -> Result<Text, Memory>
+    ensures { IfOk result (λ t. t ≡ reduction_text_is names.now numbers.now parts.now) }
+{
+    let mut text = directive_text(alloc, names, numbers)?;
+    put_reductions(&mut text, names, parts)?;
     Ok(text)
 }
 

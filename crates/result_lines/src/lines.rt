@@ -2,9 +2,11 @@
 ghost use Rattle.std.specs.Prelude.{◌≡◌, IfOk};
 ghost use Rattle.module_phases.specs.ScalarViews.{known_in};
 ghost use Rattle.result_lines.specs.Lines.{claims_of, mark_lines_of, lines_of, region_lines_of, printed_tree, scalar_lines_of};
+ghost use Rattle.result_lines.specs.ReductionLines.{loop_lines_of, reduced_lines_of};
 
+use crate::reduction::Reduction;
 use crate::show::Show;
-use crate::{mark_lines, region_lines, scalar_lines};
+use crate::{loop_lines, mark_lines, region_lines, scalar_lines};
 use affine_systems::System;
 use call_graph::View;
 use f77_ast::{At, Mark, Results};
@@ -97,5 +99,43 @@ pub fn result_lines(
         }
         Show::Bare => lines_on_loops(alloc, view, results.marks, false),
         Show::Why => lines_on_loops(alloc, view, results.marks, true),
+    }
+}
+
+/// The lines on loops, some of which have reduction variables.
+fn lines_on_reduced(
+    alloc: Global,
+    view: &View<'_>,
+    reduced: &List<At<Reduction>>,
+    marks: &List<At<Mark>>,
+    why: bool,
+) -> Result<List<Added>, Memory>
+    ensures { IfOk result (λ lines. lines ≡ loop_lines_of (known_in view.now) why reduced.now marks.now) }
+{
+    if reduced.is_empty() {
+        return lines_on_loops(alloc, view, marks, why);
+    }
+    loop_lines(alloc, view, marks, reduced, why)
+}
+
+/// As `result_lines`, but that these loops have REDUCTION clauses in place of their obstacles.
+pub fn reduced_lines(
+    alloc: Global,
+    view: &View<'_>,
+    results: &PrintedResults<'_>,
+    show: Show,
+    reduced: &List<At<Reduction>>,
+) -> Result<List<Added>, Memory>
+    ensures { IfOk result (λ lines. lines ≡ reduced_lines_of show (known_in view.now) (printed_tree results.now) reduced.now) }
+{
+    match show {
+        Show::All => {
+            let mut lines = claims_of(alloc, view, results)?.into_vec();
+            let mut loops = lines_on_reduced(alloc, view, reduced, results.marks, true)?.into_vec();
+            lines.append(&mut loops)?;
+            Ok(List::from_vec(lines))
+        }
+        Show::Bare => lines_on_reduced(alloc, view, reduced, results.marks, false),
+        Show::Why => lines_on_reduced(alloc, view, reduced, results.marks, true),
     }
 }

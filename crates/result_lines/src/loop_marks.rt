@@ -17,8 +17,9 @@ use fx_lists::{List, Text};
 use privatizer::module_functions;
 use std::alloc::{AllocError as Memory, Global};
 
+/// Appends lines before a statement.
 #[tactic(auto, using(crate::proofs::Steps::lines))]
-fn put_lines(at: StmtId, lines: &[Text], out: &mut List<Added>) -> Result<(), Memory>
+pub fn put_lines(at: StmtId, lines: &[Text], out: &mut List<Added>) -> Result<(), Memory>
     ensures { OnOk result (out.new ≡ out.old ++ map (before at) lines.now) }
 {
     for line in lines {
@@ -46,7 +47,7 @@ fn put_directive(
 }
 
 /// The lines of a mark; `why`: obstacles are asked for.
-fn put_mark(
+pub fn put_mark(
     alloc: Global,
     names: &[Text],
     functions: &List<Text>,

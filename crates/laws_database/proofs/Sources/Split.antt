@@ -87,6 +87,8 @@ accepted_is_split pieces_law program_law names_law text ms tables g p =
       modules = same.modules;
       tabled = same.tabled;
       linked = same.linked;
+      known = same.known;
+      alike = same.alike;
       shown = λ show.
           (let r = all-shown show ts same.modules g same.linked ts (λ x h. h) in
           r.1 ∙ ap Some (sym (names_law show ts g r.0 same.modules same.linked r.1) ∙ sym (same.written show)));

@@ -154,7 +154,7 @@ in_range_closed = record {
 
 -- ---- runs
 
-put_range : (s : Store) (u : ℕ) (c : Content) → InRange c.number → StoreInRange s → StoreInRange (put s u c)
+pub put_range : (s : Store) (u : ℕ) (c : Content) → InRange c.number → StoreInRange s → StoreInRange (put s u c)
 put_range s u c h l x = go (nat_eq x u)
   where
     go : (b : Bool) → InRange (if b then c else s x).number
@@ -193,7 +193,7 @@ all_keep : (rs : List Routine) → AllHaveNumbers rs → AllKeep AnyUnit InRange
 all_keep [] h = tt
 all_keep (r ∷ rs) h = (keeps r h.0, all_keep rs h.1)
 
-program_ranged : (p : Program) (turns : ℕ) → HasNumbers p.main → AllHaveNumbers p.others → Ranged (program_plan p turns)
+pub program_ranged : (p : Program) (turns : ℕ) → HasNumbers p.main → AllHaveNumbers p.others → Ranged (program_plan p turns)
 program_ranged p turns h k = (
   each_body_of AnyUnit InRange in_range_closed tt p.main turns (meanings p.others turns) (keeps p.main h) (λ x. each_meanings AnyUnit InRange in_range_closed tt p.others turns (all_keep p.others k) x) [] p.main.fixed no_locks tt suits,
   λ f. tt,

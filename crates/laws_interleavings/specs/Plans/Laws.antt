@@ -7,11 +7,11 @@ use Rattle.f77_ast.specs.Places.{Places}
 use Rattle.f77_ast.specs.Writes.{Locks}
 use Rattle.f77_ast.specs.Plans.{Plan}
 use Rattle.f77_ast.specs.Statements.{Scope, statement_plan, body_plan}
-use Rattle.f77_ast.specs.Programs.{Routine, Program, meanings, program_run}
+use Rattle.f77_ast.specs.Programs.{Routine, Program, program_plan, meanings, program_run}
 use Rattle.laws_interleavings.specs.MarkedPrograms.{Directives, marked_meanings}
 use Rattle.laws_interleavings.specs.Typed.{TagsStand, AllTagged}
 use Rattle.laws_interleavings.specs.Plans.Fine.{MeaningFine}
-use Rattle.laws_interleavings.specs.Plans.Touched.{IsOther, AnyNumber, Avoids, Suits, StatementLeaves, MeaningAvoids, AllUnused, HasNumbers, AllHaveNumbers, DifferAt, RunsAlike, StoreInRange, EventsInRange}
+use Rattle.laws_interleavings.specs.Plans.Touched.{IsOther, AnyNumber, Avoids, Suits, StatementLeaves, MeaningAvoids, AllUnused, HasNumbers, AllHaveNumbers, DifferAt, RunsAlike, Ranged, StoreInRange, EventsInRange}
 use Rattle.laws_interleavings.specs.Plans.Cleared.{Cleared, Off, EndsWell, MeaningCleared, AllApart, AllEnd}
 
 -- modules whose variables have types read no unit without a value but to fault, write no unit that is locked, and change without an event only units of their own
@@ -41,6 +41,10 @@ StatementsAvoid = (sc : Scope) (v : ℕ) → ((x : List ℕ) → MeaningAvoids v
 -- so its runs from stores that differ at the unit alone are the same
 abbrev pub AvoidingRuns : Type 0
 AvoidingRuns = (v : ℕ) (t : Plan) → Avoids v t → (s z : Store) → DifferAt v s z → (i : List Content) → RunsAlike v t s z i
+
+-- where numbers of 32 bits are read, a program whose constants and literals are such writes such
+abbrev pub ProgramsAreRanged : Type 0
+ProgramsAreRanged = (p : Program) (turns : ℕ) → HasNumbers p.main → AllHaveNumbers p.others → Ranged (program_plan p turns)
 
 -- in every run of a program whose constants, literals and first contents are numbers of 32 bits, such numbers alone are read and written, and are in the units
 abbrev pub NumbersStayInRange : Type 0

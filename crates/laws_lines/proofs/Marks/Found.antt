@@ -14,7 +14,7 @@ use Rattle.system_text.specs.Reading.{Bytes, ◌>>=◌}
 use Rattle.laws_programs.proofs.RoundtripPrograms.Texts.CardsFit.{card-text}
 use Rattle.laws_programs.proofs.RoundtripPrograms.Texts.Rows.{Row, line_card}
 use Rattle.laws_programs.proofs.RoundtripPrograms.Texts.RowsBack.{IsRow, line_behind, lines_behind, label-is as label_is}
-use Rattle.laws_lines.specs.Marks.Directives.{is_sentinel, read_lines, Directive, with_directive, directives_from}
+use Rattle.laws_lines.specs.Marks.Directives.{Clauses, is_sentinel, read_lines, Directive, with_directive, directives_from}
 use Rattle.laws_lines.proofs.Marks.Rows.{AreOthers, statement_rows, rows_are, rows_count, statement_others}
 
 -- ---- the lines of a text
@@ -120,47 +120,47 @@ belongs (l ∷ ls) more before n k e h =
 
 -- ---- statements
 
--- lines before a statement whose directive stands directly before it, and is read as these names
-pub record IsDirected (ls names : List Bytes) : Type 0 where
+-- lines before a statement whose directive stands directly before it, and says this
+pub record IsDirected (ls : List Bytes) (says : Clauses) : Type 0 where
   pub before : List Bytes
   pub own : List Bytes
   pub parts : ls ≡ before ++ own
   pub plain : ArePlain before
   pub sentinels : AreSentinels own
-  pub read : read_lines own ≡ Some names
+  pub read : read_lines own ≡ Some says
 
 -- or that has none
-abbrev pub LinesAre : List Bytes → Option (List Bytes) → Type 0
+abbrev pub LinesAre : List Bytes → Option Clauses → Type 0
 LinesAre ls None = ArePlain ls
-LinesAre ls (Some names) = IsDirected ls names
+LinesAre ls (Some says) = IsDirected ls says
 
-abbrev pub RowIs : Row → Option (List Bytes) → Type 0
+abbrev pub RowIs : Row → Option Clauses → Type 0
 RowIs r m = LinesAre r.comments m
 
-abbrev pub AreRows : List Row → List (Option (List Bytes)) → Type 0
+abbrev pub AreRows : List Row → List (Option Clauses) → Type 0
 AreRows [] [] = Unit {0}
 AreRows [] (m ∷ ms) = ⊥
 AreRows (r ∷ rs) [] = ⊥
 AreRows (r ∷ rs) (m ∷ ms) = RowIs r m × AreRows rs ms
 
-abbrev pub found_at : ℕ → Option (List Bytes) → List Directive → List Directive
+abbrev pub found_at : ℕ → Option Clauses → List Directive → List Directive
 found_at k None ds = ds
-found_at k (Some names) ds = record { line = k; private = names } ∷ ds
+found_at k (Some says) ds = record { line = k; says = says } ∷ ds
 
 -- the directives of statements, where the first comment of the first of them stands in line n
-abbrev pub found : ℕ → List Row → List (Option (List Bytes)) → List Directive
+abbrev pub found : ℕ → List Row → List (Option Clauses) → List Directive
 found n [] ms = []
 found n (r ∷ rs) [] = []
 found n (r ∷ rs) (m ∷ ms) = found_at (n + length r.comments) m (found (line_behind n r) rs ms)
 
-with_own : (k : ℕ) (own names : List Bytes) (ds : List Directive) → read_lines own ≡ Some names → with_directive k own (Some ds) ≡ Some (record { line = k; private = names } ∷ ds)
-with_own k [] names ds h = cc
-with_own k (l ∷ ls) names ds h = ap (λ (o : Option (List Bytes)). o >>= (λ (x : List Bytes). Some (record { line = k; private = x } ∷ ds))) h
+with_own : (k : ℕ) (own : List Bytes) (says : Clauses) (ds : List Directive) → read_lines own ≡ Some says → with_directive k own (Some ds) ≡ Some (record { line = k; says = says } ∷ ds)
+with_own k [] says ds h = cc
+with_own k (l ∷ ls) says ds h = ap (λ (o : Option Clauses). o >>= (λ (x : Clauses). Some (record { line = k; says = x } ∷ ds))) h
 
 pub row_count : (n : ℕ) (r : Row) → (n + length r.comments) + (continuations (phrase_text r.phrase) + 1) ≡ line_behind n r
 row_count n r = omega arith
 
-row_found : (m : Option (List Bytes)) (r : Row) (n : ℕ) (more : List Bytes) (ds : List Directive) → IsRow r → RowIs r m → directives_from (line_behind n r) [] more ≡ Some ds
+row_found : (m : Option Clauses) (r : Row) (n : ℕ) (more : List Bytes) (ds : List Directive) → IsRow r → RowIs r m → directives_from (line_behind n r) [] more ≡ Some ds
     → directives_from n [] (r.comments ++ (own_rows r ++ more)) ≡ Some (found_at (n + length r.comments) m ds)
 row_found None r n more ds g h e =
     let plain = others_plain (own_rows r) (own_others r g) in
@@ -168,7 +168,7 @@ row_found None r n more ds g h e =
     ∙ belongs (own_rows r) more [] (n + length r.comments) (continuations (phrase_text r.phrase)) (rows_count r.label (phrase_text r.phrase)) plain
     ∙ ap (λ (k : ℕ). directives_from k [] more) (row_count n r)
     ∙ e
-row_found (Some names) r n more ds g h e =
+row_found (Some says) r n more ds g h e =
     let plain = others_plain (own_rows r) (own_others r g) in
     let l : (n + length h.before) + length h.own ≡ n + length r.comments = omega (arith, length-append h.before h.own, ap length h.parts) in
     ap (λ (x : List Bytes). directives_from n [] (x ++ (own_rows r ++ more))) h.parts
@@ -179,13 +179,13 @@ row_found (Some names) r n more ds g h e =
     ∙ belongs (own_rows r) more h.own (n + length r.comments) (continuations (phrase_text r.phrase)) (rows_count r.label (phrase_text r.phrase)) plain
     ∙ ap (λ (k : ℕ). with_directive (n + length r.comments) h.own (directives_from k [] more)) (row_count n r)
     ∙ ap (with_directive (n + length r.comments) h.own) e
-    ∙ with_own (n + length r.comments) h.own names ds h.read
+    ∙ with_own (n + length r.comments) h.own says ds h.read
 
 closing_found : (ls : List Bytes) (n : ℕ) → ArePlain ls → directives_from n [] ls ≡ Some []
 unfolding directives_from
 closing_found ls n h = ap (directives_from n []) (sym (append-nil ls)) ∙ passed ls [] n h
 
-pub rows_found : (rs : List Row) (ms : List (Option (List Bytes))) (closing : List Bytes) (n : ℕ) → Each IsRow rs → AreRows rs ms → ArePlain closing
+pub rows_found : (rs : List Row) (ms : List (Option Clauses)) (closing : List Bytes) (n : ℕ) → Each IsRow rs → AreRows rs ms → ArePlain closing
     → directives_from n [] (lines_of_rows rs closing) ≡ Some (found n rs ms)
 rows_found [] [] closing n g h c = closing_found closing n c
 rows_found [] (m ∷ ms) closing n g h c = absurd h
@@ -193,17 +193,17 @@ rows_found (r ∷ rs) [] closing n g h c = absurd h
 rows_found (r ∷ rs) (m ∷ ms) closing n g h c =
     row_found m r n (lines_of_rows rs closing) (found (line_behind n r) rs ms) g.first h.0 (rows_found rs ms closing (line_behind n r) g.others h.1 c)
 
-pub rows_join : (xs ys : List Row) (ms ns : List (Option (List Bytes))) → AreRows xs ms → AreRows ys ns → AreRows (xs ++ ys) (ms ++ ns)
+pub rows_join : (xs ys : List Row) (ms ns : List (Option Clauses)) → AreRows xs ms → AreRows ys ns → AreRows (xs ++ ys) (ms ++ ns)
 rows_join [] ys [] ns h k = k
 rows_join [] ys (m ∷ ms) ns h k = absurd h
 rows_join (x ∷ xs) ys [] ns h k = absurd h
 rows_join (x ∷ xs) ys (m ∷ ms) ns h k = (h.0, rows_join xs ys ms ns h.1 k)
 
-found_split : (k : ℕ) (m : Option (List Bytes)) (ds es : List Directive) → found_at k m (ds ++ es) ≡ found_at k m ds ++ es
+found_split : (k : ℕ) (m : Option Clauses) (ds es : List Directive) → found_at k m (ds ++ es) ≡ found_at k m ds ++ es
 found_split k None ds es = refl
-found_split k (Some names) ds es = refl
+found_split k (Some says) ds es = refl
 
-pub found_append : (xs ys : List Row) (ms ns : List (Option (List Bytes))) (n : ℕ) → AreRows xs ms → found n (xs ++ ys) (ms ++ ns) ≡ found n xs ms ++ found (lines_behind n xs) ys ns
+pub found_append : (xs ys : List Row) (ms ns : List (Option Clauses)) (n : ℕ) → AreRows xs ms → found n (xs ++ ys) (ms ++ ns) ≡ found n xs ms ++ found (lines_behind n xs) ys ns
 found_append [] ys [] ns n h = refl
 found_append [] ys (m ∷ ms) ns n h = absurd h
 found_append (x ∷ xs) ys [] ns n h = absurd h

@@ -1,4 +1,4 @@
--- The lines of marks are comment lines that reading drops.
+-- The lines on loops are comment lines that reading drops.
 use Rattle.std.proofs.Common.{◌≡◌, ℕ, zero, suc, ◌+◌, Bool, true, false, List, [], ◌∷◌, ◌++◌, map, refl, sym, ap, ◌∙◌, arith, append_assoc, append-nil, if◌then◌else◌}
 use Rattle.std.specs.Prelude.{nat_eq, nat_le, codes, slice_index_or}
 use Rattle.std.specs.List.{list_all, list_any, AllByRecursion}
@@ -18,18 +18,20 @@ use Rattle.f77_ast.specs.declared.marks.Private.{Private}
 use Rattle.f77_ast.specs.declared.marks.Private.TheVariants.{Yes, Name, Carried, Live}
 use Rattle.f77_ast.specs.declared.marks.Reason.{Reason}
 use Rattle.f77_ast.specs.declared.marks.Reason.TheVariants.{Jump, InputOutput, Step, Index, Carries}
-use Rattle.f77_ast.specs.declared.marks.Mark.{Mark}
-use Rattle.f77_ast.specs.declared.marks.Mark.TheVariants.{Parallel, Serial}
 use Rattle.result_lines.specs.MarkText.{all_kinds_text, private_text, reason_text, obstacle_line, private_clause, directive_text, cut, directive_lines}
-use Rattle.result_lines.specs.MarkLines.{lines_at, mark_lines_of}
+use Rattle.result_lines.specs.ReductionText.{op_word, reduction_clause, reduction_clauses, reduction_text}
+use Rattle.result_lines.specs.ReductionLines.{LoopSaid, Directed, Obstructed, said_lines_at, said_lines}
+use Rattle.result_lines.specs.declared.reduction.ReduceOp.{ReduceOp}
+use Rattle.result_lines.specs.declared.reduction.ReduceOp.TheVariants.{Sum, Max, Min, And, Or}
+use Rattle.result_lines.specs.declared.reduction.Part.{Part}
 use Rattle.laws_programs.specs.roundtrip_programs.Cards.Good.{is_printable}
 use Rattle.system_text.specs.Reading.{Bytes}
 use Rattle.laws_programs.specs.roundtrip_programs.Texts.Texts.{IsPassedOver}
 use Rattle.laws_programs.specs.roundtrip_programs.Lines.{IsShown, AreShown}
 use Rattle.laws_lines.specs.RegionTexts.Laws.{IsShownVariable}
 use Rattle.laws_lines.specs.Marks.Directives.{is_sentinel}
-use Rattle.laws_lines.specs.Marks.Lines.{IsShownReason, IsShownMark}
-use Rattle.laws_lines.specs.Marks.Laws.{ObstaclesAreNoDirectives, MarkLinesArePassedOver}
+use Rattle.laws_lines.specs.Marks.Lines.{IsShownReason, IsShownSaid}
+use Rattle.laws_lines.specs.Marks.Laws.{ObstaclesAreNoDirectives, LoopLinesArePassedOver}
 
 -- ---- lines of printable ASCII have no line feed, and no carriage return
 
@@ -126,6 +128,27 @@ clause_shown names (n ∷ ns) h =
     (join (joined (codes ",") (map (name_at names) (n ∷ ns))) (codes ")")
     (join (name_at names n) (each_after (codes ",") (map (name_at names) ns)) (number_shown names n h) (others_shown names ns h)) refl)
 
+word_shown : (op : ReduceOp) → IsShown (op_word op)
+word_shown Sum = refl
+word_shown Max = refl
+word_shown Min = refl
+word_shown And = refl
+word_shown Or = refl
+
+reduction_shown : (names : List Bytes) (p : Part) → AreShown names → IsShown (reduction_clause names p)
+reduction_shown names p h =
+    join (codes " REDUCTION(") (op_word p.op ++ (codes ":" ++ (name_at names p.cell ++ codes ")"))) refl
+    (join (op_word p.op) (codes ":" ++ (name_at names p.cell ++ codes ")")) (word_shown p.op)
+    (join (codes ":") (name_at names p.cell ++ codes ")") refl (join (name_at names p.cell) (codes ")") (number_shown names p.cell h) refl)))
+
+reductions_shown : (names : List Bytes) (ps : List Part) → AreShown names → IsShown (reduction_clauses names ps)
+reductions_shown names [] h = refl
+reductions_shown names (p ∷ ps) h = join (reduction_clause names p) (reduction_clauses names ps) (reduction_shown names p h) (reductions_shown names ps h)
+
+text_shown : (names : List Bytes) (ns : List ℕ) (ps : List Part) → AreShown names → IsShown (reduction_text names ns ps)
+text_shown names ns ps h =
+    join (directive_text names ns) (reduction_clauses names ps) (join (codes "PARALLEL DO") (private_clause names ns) refl (clause_shown names ns h)) (reductions_shown names ps h)
+
 -- a line begins so: it is a line for compilers, and one that reading passes over, whatever stands behind it
 record Begins (l : Bytes) : Type 0 where
   shown : IsShown l
@@ -173,12 +196,12 @@ cut_lines (c ∷ cs) l used h b =
     cut_choice (nat_eq used 66) l (cut (codes "C$OMP&" ++ c ∷ []) 1 cs) (cut (l ++ c ∷ []) (used + 1) cs) b
     (cut_lines cs (codes "C$OMP&" ++ c ∷ []) 1 p.1 (next_begins c p.0)) (cut_lines cs (l ++ c ∷ []) (used + 1) p.1 (longer l c p.0 b))
 
-pub directive_is : (names : List Bytes) (ns : List ℕ) → AreShown names → AreOfDirective (directive_lines (directive_text names ns))
-directive_is names ns h =
-    cut_lines (directive_text names ns) (codes "C$OMP ") 0 (join (codes "PARALLEL DO") (private_clause names ns) refl (clause_shown names ns h))
+pub directive_is : (names : List Bytes) (ns : List ℕ) (ps : List Part) → AreShown names → AreOfDirective (directive_lines (reduction_text names ns ps))
+directive_is names ns ps h =
+    cut_lines (reduction_text names ns ps) (codes "C$OMP ") 0 (text_shown names ns ps h)
     (record { shown = refl; comment = λ x. refl; dropped = λ x. refl; sentinel = λ x. refl })
 
--- ---- the lines of marks
+-- ---- the lines on loops
 
 each_passed : (n : ℕ) (ls : List Bytes) → AreOfDirective ls → AllByRecursion IsPassedOver (map (before n) ls)
 each_passed n [] h = tt
@@ -192,11 +215,11 @@ obstacle_by : (why : Bool) (a : Added) → IsPassedOver a → AllByRecursion IsP
 obstacle_by true a h = (h, tt)
 obstacle_by false a h = tt
 
-mark_passed : (names : List Bytes) (why : Bool) (n : ℕ) (m : Mark) → AreShown names → IsShownMark m → AllByRecursion IsPassedOver (lines_at names why n m)
-mark_passed names why n (Parallel ns) h k = each_passed n (directive_lines (directive_text names ns)) (directive_is names ns h)
-mark_passed names why n (Serial r) h k = obstacle_by why (before n (obstacle_line names r)) (passed (before n (obstacle_line names r)) (obstacle_passed names r h k))
+said_passed : (names : List Bytes) (why : Bool) (n : ℕ) (s : LoopSaid) → AreShown names → IsShownSaid s → AllByRecursion IsPassedOver (said_lines_at names why n s)
+said_passed names why n (Directed ns ps) h k = each_passed n (directive_lines (reduction_text names ns ps)) (directive_is names ns ps h)
+said_passed names why n (Obstructed r) h k = obstacle_by why (before n (obstacle_line names r)) (passed (before n (obstacle_line names r)) (obstacle_passed names r h k))
 
-pub mark_lines_are_passed_over : MarkLinesArePassedOver
-mark_lines_are_passed_over names why [] h k = tt
-mark_lines_are_passed_over names why (m ∷ ms) h k =
-    both (lines_at names why m.id m.value) (mark_lines_of names why ms) (mark_passed names why m.id m.value h k.0) (mark_lines_are_passed_over names why ms h k.1)
+pub loop_lines_are_passed_over : LoopLinesArePassedOver
+loop_lines_are_passed_over names why [] h k = tt
+loop_lines_are_passed_over names why (s ∷ ss) h k =
+    both (said_lines_at names why s.id s.value) (said_lines names why ss) (said_passed names why s.id s.value h k.0) (loop_lines_are_passed_over names why ss h k.1)

@@ -1,4 +1,4 @@
--- The written text of a program is read with the marks that it was written with.
+-- The written text of a program is read with the marked loops that it was written with.
 use Rattle.std.proofs.Common.{inl, inr, ◌≡◌, ℕ, ◌+◌, Bool, true, false, List, [], ◌∷◌, ◌++◌, map, refl, sym, ap, ◌∙◌, subst, append_assoc, append-nil, Option, Some, None, if◌then◌else◌, not, eq-eqb}
 use Rattle.std.specs.Prelude.{nat_eq, drop, ◌&&◌, ◌||◌, codes}
 use Rattle.std.specs.List.{list_all, list_any, starts_with}
@@ -14,10 +14,10 @@ use Rattle.f77_printer.specs.AddedText.{part_of}
 use Rattle.f77_printer.specs.ModuleText.{first_part}
 use Rattle.f77_ast.specs.declared.results.At.{At}
 use Rattle.fixed_form.specs.Cards.{has_comment_mark}
-use Rattle.f77_ast.specs.declared.marks.Mark.{Mark}
-use Rattle.f77_ast.specs.declared.marks.Mark.TheVariants.{Parallel, Serial}
-use Rattle.result_lines.specs.MarkText.{obstacle_line, directive_text, directive_lines}
-use Rattle.result_lines.specs.MarkLines.{mark_lines_of}
+use Rattle.result_lines.specs.MarkText.{obstacle_line, directive_lines}
+use Rattle.result_lines.specs.ReductionText.{reduction_text}
+use Rattle.result_lines.specs.ReductionLines.{LoopSaid, Directed, Obstructed, said_lines}
+use Rattle.result_lines.specs.declared.reduction.Part.{Part as Accumulated}
 use Rattle.laws_programs.specs.roundtrip_programs.Cards.Cards.{kept}
 use Rattle.laws_programs.specs.roundtrip_programs.Statements.Formed.{Each}
 use Rattle.f77_statements.specs.Phrases.{end_module}
@@ -39,9 +39,9 @@ use Rattle.laws_programs.proofs.RoundtripPrograms.Texts.Rows.{added_lines, lines
 use Rattle.laws_programs.proofs.RoundtripPrograms.Texts.RowsBack.{read_rows, lines_behind}
 use Rattle.laws_programs.proofs.RoundtripPrograms.Texts.Standing.{spots_of, built-spots}
 use Rattle.laws_programs.proofs.RoundtripPrograms.Texts.Whole.{IsSound, plain, all-sound, all-rows, closing-kept, all-text, again_of, all_again, again-written, parsed-back}
-use Rattle.laws_lines.specs.Marks.Directives.{is_sentinel, Directive, directives_in, directives_from}
+use Rattle.laws_lines.specs.Marks.Directives.{Clauses, is_sentinel, Directive, directives_in, directives_from}
 use Rattle.laws_lines.specs.Marks.Marked.{Attached, attached, all_attached, loops_in, with_functions, all_with_functions, AreOfLoops}
-use Rattle.laws_lines.specs.Marks.Lines.{AreNumberedMarks}
+use Rattle.laws_lines.specs.Marks.Lines.{AreNumberedSaid}
 use Rattle.laws_lines.specs.Marks.MarkedLoops.{as_parallel, parallel_in}
 use Rattle.laws_lines.specs.Marks.WholeLaws.{IsMarked, with_marks, MarkedBack, MarksReadBack}
 use Rattle.laws_lines.proofs.Marks.Found.{ArePlain, AreSentinels, LinesAre, AreRows, found, lines_are, rows_found, rows_join, found_append}
@@ -49,7 +49,7 @@ use Rattle.laws_lines.proofs.Marks.Attach.{IsFrom, IsMarkable, AreMarkable, foun
 use Rattle.laws_lines.proofs.Marks.Loops.{HaveLoops, Ascend, body_have_loops, body_rises_on}
 use Rattle.laws_lines.proofs.Marks.MarkNumbers.{loops_written}
 use Rattle.laws_lines.proofs.Marks.Cases.{look, mark_at, mark_for, lines_for, added_append, AreOfStatements, marks_at_statement, marks_nowhere, numbers, StatementCase, CardCases, Result, above, above_zero, along}
-use Rattle.laws_lines.proofs.Marks.DirectiveBack.{directives_read_back}
+use Rattle.laws_lines.proofs.Marks.DirectiveBack.{reductions_read_back}
 use Rattle.laws_lines.proofs.Marks.Passed.{AreOfDirective, directive_is}
 
 -- ---- lines that are no lines for compilers
@@ -79,8 +79,8 @@ each_sentinel : (ls : List Bytes) → AreOfDirective ls → AreSentinels ls
 each_sentinel [] h = tt
 each_sentinel (l ∷ ls) h = (h.0.sentinel, each_sentinel ls h.1)
 
-sentinels_of : (names : List Bytes) (ns : List ℕ) → AreShown names → AreSentinels (directive_lines (directive_text names ns))
-sentinels_of names ns h = each_sentinel (directive_lines (directive_text names ns)) (directive_is names ns h)
+sentinels_of : (names : List Bytes) (ns : List ℕ) (ps : List Accumulated) → AreShown names → AreSentinels (directive_lines (reduction_text names ns ps))
+sentinels_of names ns ps h = each_sentinel (directive_lines (reduction_text names ns ps)) (directive_is names ns ps h)
 
 -- a part before which no directive stands
 other_part : (part : Part) (inner : Option Part) (spots : List Spot) → SpotsKept spots → (own : List Bytes) → ArePlain own
@@ -92,13 +92,13 @@ other_part part inner spots k own h =
 -- ---- one statement
 
 -- what is asked of a module, and what is added to it
-module _ (names : List Bytes) (why : Bool) (ms : List (At Mark)) (others : List Added) (first : Part)
-    (are : AreNames names) (shown : AreShown names) (numbered : AreNumberedMarks names ms) (of_statements : AreOfStatements ms) (plain_others : PlainAdded others) where
+module _ (names : List Bytes) (why : Bool) (ms : List (At LoopSaid)) (others : List Added) (first : Part)
+    (are : AreNames names) (shown : AreShown names) (numbered : AreNumberedSaid names ms) (of_statements : AreOfStatements ms) (plain_others : PlainAdded others) where
   abbrev whole_lines : Part → List Bytes
-  whole_lines part = added_lines first (others ++ mark_lines_of names why ms) part
+  whole_lines part = added_lines first (others ++ said_lines names why ms) part
 
-  split_lines : (part : Part) → whole_lines part ≡ added_lines first others part ++ added_lines first (mark_lines_of names why ms) part
-  split_lines part = added_append first others (mark_lines_of names why ms) part
+  split_lines : (part : Part) → whole_lines part ≡ added_lines first others part ++ added_lines first (said_lines names why ms) part
+  split_lines part = added_append first others (said_lines names why ms) part
 
   other_plain : (part : Part) → ((n : ℕ) → is_part part (parts.Stmt n) ≡ false) → ArePlain (whole_lines part)
   other_plain part f =
@@ -122,11 +122,11 @@ module _ (names : List Bytes) (why : Bool) (ms : List (At Mark)) (others : List 
   by_case : (i : ℕ) (inner : Option Part) (a b : List Bytes) → ArePlain a → ArePlain b → (inner ≡ None → b ≡ []) → StatementCase names why ms inner i
       → LinesAre ((a ++ whole_lines (parts.Stmt i)) ++ b) (look names ms i)
   by_case i inner a b p q f (inl (e, n)) = subst (LinesAre ((a ++ whole_lines (parts.Stmt i)) ++ b)) (sym n) (all_plain i a b [] p q e tt)
-  by_case i inner a b p q f (inr (Serial r, num, e, n, g)) =
+  by_case i inner a b p q f (inr (Obstructed r, num, e, n, g)) =
       subst (LinesAre ((a ++ whole_lines (parts.Stmt i)) ++ b)) (sym n) (all_plain i a b (if why then obstacle_line names r ∷ [] else []) p q e (serial_plain why (obstacle_line names r) refl))
-  by_case i inner a b p q f (inr (Parallel ns, num, e, n, g)) =
+  by_case i inner a b p q f (inr (Directed ns ps, num, e, n, g)) =
       let o = added_lines first others (parts.Stmt i) in
-      let d = directive_lines (directive_text names ns) in
+      let d = directive_lines (reduction_text names ns ps) in
       let is : (a ++ whole_lines (parts.Stmt i)) ++ b ≡ (a ++ o) ++ d =
       ap (λ (x : List Bytes). (a ++ whole_lines (parts.Stmt i)) ++ x) (f g)
       ∙ append-nil (a ++ whole_lines (parts.Stmt i))
@@ -137,8 +137,8 @@ module _ (names : List Bytes) (why : Bool) (ms : List (At Mark)) (others : List 
         own = d;
         parts = is;
         plain = plain_append a o p (plain_added first others (parts.Stmt i) plain_others);
-        sentinels = sentinels_of names ns shown;
-        read = directives_read_back names ns are num;
+        sentinels = sentinels_of names ns ps shown;
+        read = reductions_read_back names ns ps are num.0 num.1;
       })
 
   no_inner : (inner : Option Part) (spots : List Spot) → inner ≡ None → inner_comments inner spots ≡ []
@@ -162,11 +162,11 @@ module _ (names : List Bytes) (why : Bool) (ms : List (At Mark)) (others : List 
   rows_are (c ∷ cs) spots k h =
       (at_part c.part c.inner spots k h.0, rows_are cs (behind c spots) (inner-behind c.inner _ (behind-kept c.part spots k)) h.1)
 
-markable_by : (m : Option (List Bytes)) (c : Card) (i : ℕ) → c.part ≡ parts.Stmt i → IsMarkable c m
+markable_by : (m : Option Clauses) (c : Card) (i : ℕ) → c.part ≡ parts.Stmt i → IsMarkable c m
 markable_by None c i e = tt
-markable_by (Some names) c i e = (i, e)
+markable_by (Some says) c i e = (i, e)
 
-markable_at : (names : List Bytes) (ms : List (At Mark)) (c : Card) (part : Part) → c.part ≡ part → IsMarkable c (mark_at names ms part)
+markable_at : (names : List Bytes) (ms : List (At LoopSaid)) (c : Card) (part : Part) → c.part ≡ part → IsMarkable c (mark_at names ms part)
 markable_at names ms c (parts.Stmt i) e = markable_by (look names ms i) c i e
 markable_at names ms c parts.Title e = tt
 markable_at names ms c (parts.Decl i) e = tt
@@ -175,7 +175,7 @@ markable_at names ms c (parts.Else i) e = tt
 markable_at names ms c (parts.Close i) e = tt
 markable_at names ms c parts.End e = tt
 
-all_markable : (names : List Bytes) (ms : List (At Mark)) (cs : List Card) → AreMarkable cs (map (mark_for names ms) cs)
+all_markable : (names : List Bytes) (ms : List (At LoopSaid)) (cs : List Card) → AreMarkable cs (map (mark_for names ms) cs)
 all_markable names ms [] = tt
 all_markable names ms (c ∷ cs) = (markable_at names ms c c.part refl, all_markable names ms cs)
 
@@ -227,43 +227,43 @@ member i xs ys =
     list_any-append (nat_eq i) xs (i ∷ ys)
     ∙ or_right (list_any (nat_eq i) xs) (list_any (nat_eq i) (i ∷ ys)) (or_left (nat_eq i i) (list_any (nat_eq i) ys) (eq-eqb i i refl))
 
-abbrev AreAmong : List ℕ → List (At (List Bytes)) → Type 0
-AreAmong ls xs = list_all (λ (x : At (List Bytes)). list_any (nat_eq x.id) ls) xs ≡ true
+abbrev AreAmong : List ℕ → List (At Clauses) → Type 0
+AreAmong ls xs = list_all (λ (x : At Clauses). list_any (nat_eq x.id) ls) xs ≡ true
 
-with_one : (ls : List ℕ) (names : List Bytes) (n : ℕ) (v : Mark) (xs : List (At (List Bytes))) → list_any (nat_eq n) ls ≡ true → AreAmong ls xs → AreAmong ls (as_parallel names n v ++ xs)
-with_one ls names n (Parallel ns) xs h k = and_from (list_any (nat_eq n) ls) (list_all (λ (x : At (List Bytes)). list_any (nat_eq x.id) ls) xs) h k
-with_one ls names n (Serial r) xs h k = k
+with_one : (ls : List ℕ) (names : List Bytes) (n : ℕ) (v : LoopSaid) (xs : List (At Clauses)) → list_any (nat_eq n) ls ≡ true → AreAmong ls xs → AreAmong ls (as_parallel names n v ++ xs)
+with_one ls names n (Directed ns ps) xs h k = and_from (list_any (nat_eq n) ls) (list_all (λ (x : At Clauses). list_any (nat_eq x.id) ls) xs) h k
+with_one ls names n (Obstructed r) xs h k = k
 
-among : (names : List Bytes) (before : List ℕ) (ms : List (At Mark)) → AreAmong (before ++ numbers ms) (parallel_in names ms)
+among : (names : List Bytes) (before : List ℕ) (ms : List (At LoopSaid)) → AreAmong (before ++ numbers ms) (parallel_in names ms)
 among names before [] = refl
 among names before (m ∷ ms) =
     with_one (before ++ m.id ∷ numbers ms) names m.id m.value (parallel_in names ms) (member m.id before (numbers ms))
     (subst (λ (ls : List ℕ). AreAmong ls (parallel_in names ms)) (append_assoc before (m.id ∷ []) (numbers ms)) (among names (before ++ m.id ∷ []) ms))
 
 -- also with the names that the text does not say
-named_among : (ls : List ℕ) (t : ModuleTree) (xs : List (At (List Bytes)))
-    → list_all (λ (x : At (List Bytes)). list_any (nat_eq x.id) ls) (with_functions t xs) ≡ list_all (λ (x : At (List Bytes)). list_any (nat_eq x.id) ls) xs
+named_among : (ls : List ℕ) (t : ModuleTree) (xs : List (At Clauses))
+    → list_all (λ (x : At Clauses). list_any (nat_eq x.id) ls) (with_functions t xs) ≡ list_all (λ (x : At Clauses). list_any (nat_eq x.id) ls) xs
 named_among ls t [] = refl
 named_among ls t (x ∷ xs) = ap (λ (b : Bool). list_any (nat_eq x.id) ls && b) (named_among ls t xs)
 
-module _ (names : ParsedTree → List Bytes) (why : Bool) (marks : ParsedTree → List (At Mark)) (others : ParsedTree → List Added) where
+module _ (names : ParsedTree → List Bytes) (why : Bool) (marks : ParsedTree → List (At LoopSaid)) (others : ParsedTree → List Added) where
   abbrev added : ParsedTree → List Added
   added p = with_marks names why marks others p
 
   abbrev Marked : ParsedTree → Type 0
   Marked p = IsMarked names marks others p
 
-  abbrev options_of : ParsedTree → List (Option (List Bytes))
+  abbrev options_of : ParsedTree → List (Option Clauses)
   options_of p = map (mark_for (names p) (marks p)) (statements_of p.module_read)
 
-  abbrev all_options : List ParsedTree → List (Option (List Bytes))
+  abbrev all_options : List ParsedTree → List (Option Clauses)
   all_options [] = []
   all_options (p ∷ ps) = options_of p ++ all_options ps
 
-  abbrev parallel_of : ParsedTree → List (At (List Bytes))
+  abbrev parallel_of : ParsedTree → List (At Clauses)
   parallel_of p = parallel_in (names p) (marks p)
 
-  abbrev marked_of : ParsedTree → List (At (List Bytes))
+  abbrev marked_of : ParsedTree → List (At Clauses)
   marked_of p = with_functions p.module_read (parallel_of p)
 
   loops_of : (p : ParsedTree) → IsSound p → Marked p → HaveLoops (statements_of p.module_read) (numbers (marks p))
@@ -297,10 +297,10 @@ module _ (names : ParsedTree → List Bytes) (why : Bool) (marks : ParsedTree �
       let mine : attached again.places.spots (found n rows own ++ later) ≡ (parallel_of p, later) =
       ap (λ (ss : List Spot). attached ss (found n rows own ++ later)) spots
       ∙ attach_rows (added_lines (first_part p.module_read) (added p)) p.places.spots cards own n later (all_markable (names p) (marks p) cards) from
-      ∙ ap (λ (x : List (At (List Bytes))). (x, later)) (result p s.first m.first).marks in
+      ∙ ap (λ (x : List (At Clauses)). (x, later)) (result p s.first m.first).marks in
       ap (all_attached (again ∷ all_again added closing k ps)) (found_append rows (all_rows added ps) own (all_options ps) n (own_rows_are p s.first m.first))
       ∙ ap (λ (x : Attached). (x.0 ∷ (all_attached (all_again added closing k ps) x.1).0, (all_attached (all_again added closing k ps) x.1).1)) mine
-      ∙ ap (λ (x : List (List (At (List Bytes))) × List Directive). (parallel_of p ∷ x.0, x.1)) (attach_all closing ps k s.others m.others)
+      ∙ ap (λ (x : List (List (At Clauses)) × List Directive). (parallel_of p ∷ x.0, x.1)) (attach_all closing ps k s.others m.others)
 
   all_named : (closing : List Bytes) (ps : List ParsedTree) (n : ℕ) → Each IsSound ps → all_with_functions (all_again added closing n ps) (map parallel_of ps) ≡ map marked_of ps
   all_named closing [] n s = refl
@@ -309,7 +309,7 @@ module _ (names : ParsedTree → List Bytes) (why : Bool) (marks : ParsedTree �
       let k = lines_behind n rows in
       let again = built_again p.module_read _ (read_rows n rows) s.first.well (again-written added n p) in
       ap (λ (t : ModuleTree). with_functions t (parallel_of p) ∷ all_with_functions (all_again added closing k ps) (map parallel_of ps)) again
-      ∙ ap (λ (x : List (List (At (List Bytes)))). marked_of p ∷ x) (all_named closing ps k s.others)
+      ∙ ap (λ (x : List (List (At Clauses))). marked_of p ∷ x) (all_named closing ps k s.others)
 
   all_loops : (closing : List Bytes) (ps : List ParsedTree) (n : ℕ) → Each IsSound ps → Each Marked ps → AreOfLoops (all_again added closing n ps) (map marked_of ps)
   all_loops closing [] n s m = tt

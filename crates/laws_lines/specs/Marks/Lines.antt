@@ -1,14 +1,27 @@
--- What is asked of marks, so that their lines are read as they were written.
-use Rattle.std.specs.Prelude.{List}
+-- What the lines on a loop are read as, and what is asked of them for that.
+use Rattle.std.specs.Prelude.{ℕ, List, map}
 use Rattle.std.specs.List.{AllByRecursion}
 use Rattle.f77_ast.specs.declared.results.At.{At}
 use Rattle.f77_ast.specs.declared.marks.Reason.{Reason}
 use Rattle.f77_ast.specs.declared.marks.Reason.TheVariants.{Jump, InputOutput, Step, Index, Carries}
-use Rattle.f77_ast.specs.declared.marks.Mark.{Mark}
-use Rattle.f77_ast.specs.declared.marks.Mark.TheVariants.{Parallel, Serial}
+use Rattle.system_text.specs.SystemText.{name_at}
+use Rattle.result_lines.specs.ReductionLines.{LoopSaid, Directed, Obstructed}
+use Rattle.result_lines.specs.declared.reduction.Part.{Part}
 use Rattle.system_text.specs.Reading.{Bytes}
-use Rattle.system_text.specs.Printed.{AreNumbers}
+use Rattle.system_text.specs.Printed.{IsNumber, AreNumbers}
 use Rattle.laws_lines.specs.RegionTexts.Laws.{IsShownVariable}
+use Rattle.laws_lines.specs.Marks.Directives.{Clause, Clauses}
+
+-- ---- what a directive says
+
+abbrev pub clause_of : List Bytes → Part → Clause
+clause_of names p = record { op = p.op; name = name_at names p.cell }
+
+-- with these private symbols and these reduction variables
+abbrev pub clauses_of : List Bytes → List ℕ → List Part → Clauses
+clauses_of names ns ps = record { private = map (name_at names) ns; reductions = map (clause_of names) ps }
+
+-- ---- printable ASCII
 
 -- the variable of an obstacle is a symbol, or has a name of printable ASCII
 abbrev pub IsShownReason : Reason → Type 0
@@ -18,17 +31,23 @@ IsShownReason Step = Unit {0}
 IsShownReason Index = Unit {0}
 IsShownReason (Carries v ks p) = IsShownVariable v
 
-abbrev pub IsShownMark : Mark → Type 0
-IsShownMark (Parallel ns) = Unit {0}
-IsShownMark (Serial r) = IsShownReason r
+abbrev pub IsShownSaid : LoopSaid → Type 0
+IsShownSaid (Directed ns ps) = Unit {0}
+IsShownSaid (Obstructed r) = IsShownReason r
 
-abbrev pub AreShownMarks : List (At Mark) → Type 0
-AreShownMarks ms = AllByRecursion (λ (m : At Mark). IsShownMark m.value) ms
+abbrev pub AreShownSaid : List (At LoopSaid) → Type 0
+AreShownSaid ss = AllByRecursion (λ (s : At LoopSaid). IsShownSaid s.value) ss
 
--- private variables are symbols
-abbrev pub IsNumberedMark : List Bytes → Mark → Type 0
-IsNumberedMark names (Parallel ns) = AreNumbers names ns
-IsNumberedMark names (Serial r) = Unit {0}
+-- ---- symbols
 
-abbrev pub AreNumberedMarks : List Bytes → List (At Mark) → Type 0
-AreNumberedMarks names ms = AllByRecursion (λ (m : At Mark). IsNumberedMark names m.value) ms
+-- reduction variables are symbols
+abbrev pub AreNumberedParts : List Bytes → List Part → Type 0
+AreNumberedParts names ps = AllByRecursion (λ (p : Part). IsNumber names p.cell) ps
+
+-- and so are private variables
+abbrev pub IsNumberedSaid : List Bytes → LoopSaid → Type 0
+IsNumberedSaid names (Directed ns ps) = AreNumbers names ns × AreNumberedParts names ps
+IsNumberedSaid names (Obstructed r) = Unit {0}
+
+abbrev pub AreNumberedSaid : List Bytes → List (At LoopSaid) → Type 0
+AreNumberedSaid names ss = AllByRecursion (λ (s : At LoopSaid). IsNumberedSaid names s.value) ss

@@ -12,7 +12,7 @@ use Rattle.loop_marker.specs.dependence_test.Finding.{loop_in}
 use Rattle.loop_marker.specs.privatizer.Functions.{own_functions}
 use Rattle.system_text.specs.Reading.{Bytes}
 use Rattle.laws_programs.specs.roundtrip_programs.Texts.Texts.{IsReadAs}
-use Rattle.laws_lines.specs.Marks.Directives.{Directive, directives_in}
+use Rattle.laws_lines.specs.Marks.Directives.{Clauses, Directive, directives_in}
 
 -- ---- the loops of a module
 
@@ -47,23 +47,23 @@ number_in (Close n) = None
 number_in End = None
 
 -- the line behind the directive is the first one of the statement
-abbrev pub taken : Spot → Directive → Option (At (List Bytes))
-taken s d = if nat_eq s.first d.line then option_map (λ (n : ℕ). record { id = n; value = d.private }) (number_in s.part) else None
+abbrev pub taken : Spot → Directive → Option (At Clauses)
+taken s d = if nat_eq s.first d.line then option_map (λ (n : ℕ). record { id = n; value = d.says }) (number_in s.part) else None
 
 abbrev pub Attached : Type 0
-Attached = List (At (List Bytes)) × List Directive
+Attached = List (At Clauses) × List Directive
 
-abbrev pub attached_by : Option (At (List Bytes)) → Attached → Attached → Attached
+abbrev pub attached_by : Option (At Clauses) → Attached → Attached → Attached
 attached_by None with_it without_it = without_it
 attached_by (Some m) with_it without_it = (m ∷ with_it.0, with_it.1)
 
--- of the statements at these spots, in the order of the text, those before which the directives stand, each with the names of its own; and the directives that are left
+-- of the statements at these spots, in the order of the text, those before which the directives stand, each with what its own says; and the directives that are left
 unfoldable pub attached : List Spot → List Directive → Attached
 attached [] ds = ([], ds)
 attached (s ∷ ss) [] = ([], [])
 attached (s ∷ ss) (d ∷ ds) = attached_by (taken s d) (attached ss ds) (attached ss (d ∷ ds))
 
-abbrev pub all_attached : List ParsedTree → List Directive → List (List (At (List Bytes))) × List Directive
+abbrev pub all_attached : List ParsedTree → List Directive → List (List (At Clauses)) × List Directive
 all_attached [] ds = ([], ds)
 all_attached (p ∷ ps) ds =
     let own = attached p.places.spots ds in
@@ -80,12 +80,15 @@ functions_in_loop m (Some (loop i first last step body)) = own_functions m body
 abbrev pub functions_of : ModuleTree → ℕ → List Bytes
 functions_of m n = functions_in_loop m (loop_in n m.body)
 
+abbrev pub with_private : Clauses → List Bytes → Clauses
+with_private c names = record { private = c.private ++ names; reductions = c.reductions }
+
 -- their results are private in the DO, too: each iteration has its own
-abbrev pub with_functions : ModuleTree → List (At (List Bytes)) → List (At (List Bytes))
-with_functions m ms = map (λ (x : At (List Bytes)). record { id = x.id; value = x.value ++ functions_of m x.id }) ms
+abbrev pub with_functions : ModuleTree → List (At Clauses) → List (At Clauses)
+with_functions m ms = map (λ (x : At Clauses). record { id = x.id; value = with_private x.value (functions_of m x.id) }) ms
 
 -- of modules, with the marked loops of each
-abbrev pub all_with_functions : List ParsedTree → List (List (At (List Bytes))) → List (List (At (List Bytes)))
+abbrev pub all_with_functions : List ParsedTree → List (List (At Clauses)) → List (List (At Clauses))
 all_with_functions [] mss = []
 all_with_functions (p ∷ ps) [] = []
 all_with_functions (p ∷ ps) (ms ∷ mss) = with_functions p.module_read ms ∷ all_with_functions ps mss
@@ -93,20 +96,20 @@ all_with_functions (p ∷ ps) (ms ∷ mss) = with_functions p.module_read ms ∷
 -- ---- texts
 
 -- each marked statement is a DO
-abbrev pub AreOfLoops : List ParsedTree → List (List (At (List Bytes))) → Type 0
+abbrev pub AreOfLoops : List ParsedTree → List (List (At Clauses)) → Type 0
 AreOfLoops [] [] = Unit {0}
 AreOfLoops [] (ms ∷ mss) = ⊥
 AreOfLoops (p ∷ ps) [] = ⊥
-AreOfLoops (p ∷ ps) (ms ∷ mss) = (list_all (λ (m : At (List Bytes)). list_any (nat_eq m.id) (loops_in p.module_read.body)) ms ≡ true) × AreOfLoops ps mss
+AreOfLoops (p ∷ ps) (ms ∷ mss) = (list_all (λ (m : At Clauses). list_any (nat_eq m.id) (loops_in p.module_read.body)) ms ≡ true) × AreOfLoops ps mss
 
--- the text is read as these modules, and in each the DO statements with these numbers are marked, with these private names: a directive stands directly before
--- each of them, in the lines above its first one, and no line for compilers stands anywhere else. The private names are those of the directive, and then those of
--- the functions of which the body takes values
-pub record ReadMarked (text : Bytes) (ps : List ParsedTree) (marks : List (List (At (List Bytes)))) : Type 0 where
+-- the text is read as these modules, and in each the DO statements with these numbers are marked, with these clauses: a directive stands directly before
+-- each of them, in the lines above its first one, and no line for compilers stands anywhere else. The clauses are those of the directive, but that the private names
+-- are also those of the functions of which the body takes values
+pub record ReadMarked (text : Bytes) (ps : List ParsedTree) (marks : List (List (At Clauses))) : Type 0 where
   pub read : IsReadAs text ps
   pub directives : List Directive
   pub found : directives_in text ≡ Some directives
-  pub named : List (List (At (List Bytes)))
+  pub named : List (List (At Clauses))
   pub attached : all_attached ps directives ≡ (named, [])
   pub marked : all_with_functions ps named ≡ marks
   pub loops : AreOfLoops ps marks

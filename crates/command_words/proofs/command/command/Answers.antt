@@ -11,4 +11,5 @@ returns c =
     let three = with_rule-next _ _ _ _ (flag_rule (codes "verify")) two c.flag.ensures.rule c.in_ok-command-3.ensures in
     let four = with_rule-next _ _ _ _ (flag_rule (codes "session")) three c.flag-2.ensures.rule c.in_ok-command-4.ensures in
     let five = with_rule-next _ _ _ _ (valued_rule (codes "generate")) four c.valued-3.ensures.rule c.in_ok-command-5.ensures in
-    with_rule-next _ _ _ _ input_rule five c.input.ensures.rule c.in_ok-command-6.ensures
+    let six = with_rule-next _ _ _ _ (flag_rule (codes "reductions")) five c.flag-3.ensures.rule c.in_ok-command-6.ensures in
+    with_rule-next _ _ _ _ input_rule six c.input.ensures.rule c.in_ok-command-7.ensures

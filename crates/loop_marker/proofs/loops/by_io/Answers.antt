@@ -7,7 +7,7 @@ use Rattle.f77_ast.specs.declared.marks.Reason.TheVariants.{InputOutput}
 use Rattle.loop_marker.specs.Jumps.{body_of, may_have_io}
 use Rattle.loop_marker.specs.Variables.{inner_in}
 use Rattle.loop_marker.specs.Known.{known_module}
-use Rattle.loop_marker.specs.Marks.{by_step, by_io}
+use Rattle.loop_marker.specs.Marks.{by_step}
 use Rattle.loop_marker.proofs.loops.by_io.Goals as goal
 
 pub returns : goal.returns

@@ -1,7 +1,6 @@
 use Rattle.std.proofs.Common.{◌≡◌, [], length}
 use Rattle.f77_ast.specs.PlainStmt.{loop_tree}
-use Rattle.dependence_test.specs.Given.{BodyFits}
-use Rattle.privatizer.specs.Views.{UsesFit, uses_tree}
+use Rattle.privatizer.specs.Views.{uses_tree}
 use Rattle.loop_marker.specs.Known.{known_module}
 use Rattle.loop_marker.specs.Marks.{marked, verdict_of}
 use Rattle.loop_marker.proofs.loops.marked.Given as goal

@@ -18,7 +18,8 @@ loop-outs-preserved c =
           ∙ sym (ap (λ fs. out ++ found_in u old fs) (popped outs_tree _ _ c.in-Some.outs c.in-Some.ensures.items))
           ∙ c.loop-outs.invariant.same;
       left = (All-pop ModuleFits _ _ (Some c.in-Some.outs) c.in-Some.ensures.items c.loop-outs.invariant.left).0;
+      fit = c.in_ok-add_module.ensures.fits;
     }
 
-pub add_module-requires : goal.add_module-requires
-add_module-requires c = (All-pop ModuleFits c.loop-outs.left.items c.pop.new.self.items (Some c.in-Some.outs) c.in-Some.ensures.items c.loop-outs.invariant.left).1
+pub add_module-requires-clause-outs : goal.add_module-requires-clause-outs
+add_module-requires-clause-outs c = (All-pop ModuleFits c.loop-outs.left.items c.pop.new.self.items (Some c.in-Some.outs) c.in-Some.ensures.items c.loop-outs.invariant.left).1

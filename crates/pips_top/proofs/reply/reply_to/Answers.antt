@@ -11,9 +11,9 @@ returns-in-Ok-Some-WriteOver-clause-answer g c =
     let old : Stored = record { files = g.F.Store.files c.args.files.now; counts = g.F.Store.counts c.args.files.now } in
     let new : Stored = record { files = g.F.Store.files c.reply_to_program_over.new.files; counts = g.F.Store.counts c.reply_to_program_over.new.files } in
     let it = c.in-Ok-Some-WriteOver in
-    let by : JobBy c.args.words.now (Ok (Some (WriteOver it.show it.name it.opening))) =
+    let by : JobBy c.args.words.now (Ok (Some (WriteOver it.wanted it.name it.opening))) =
     subst (λ (j : Job). JobBy c.args.words.now (Ok (Some j))) it.field-0-0-is (subst (λ (o : Option Job). JobBy c.args.words.now (Ok o)) it.field-0-is it.ensures) in
-    replies_by c.args.words.now (WriteOver it.show it.name it.opening) old new by.0 by.1 c.reply_to_program_over.result c.reply_to_program_over.ensures.answer
+    replies_by c.args.words.now (WriteOver it.wanted it.name it.opening) old new by.0 by.1 c.reply_to_program_over.result c.reply_to_program_over.ensures.answer
 
 pub returns-in-Ok-Some-AnswerOver-clause-answer : goal.returns-in-Ok-Some-AnswerOver-clause-answer
 returns-in-Ok-Some-AnswerOver-clause-answer g c =

@@ -1,0 +1,12 @@
+pub mod To
+pub mod Reading
+pub mod Chains
+pub mod Sums
+pub mod Added
+pub mod Truths
+pub mod Greatest
+pub mod Assigning
+pub mod NoTargets
+pub mod Plans
+pub mod Lists
+pub mod Statements

@@ -1,0 +1,5 @@
+pub mod Both
+pub mod Leaves
+pub mod Clear
+pub mod Adding
+pub mod Body

@@ -1,0 +1,3 @@
+pub mod Accumulations
+pub mod Standings
+pub mod Reduced
