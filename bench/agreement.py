@@ -2,15 +2,16 @@
 """Compares the built program with the reference implementation on random texts: the exit number, and each byte on out and on err. What is
 written is given to the built program again, with the same words, and has to come out unchanged.
 
-    python3 bench/agreement.py [--statements] [--damaged] [--reductions] [--from SEED] COUNT [PATH_TO_PIPS [PROFILE..]]
+    python3 bench/agreement.py [--statements] [--damaged] [--once] [--reductions] [--bounds] [--from SEED] COUNT [PATH_TO_PIPS [PROFILE..]]
 
 The texts are those of reference/programs.py, of each of its profiles. Half of them are damaged at one place or two. With profiles, which are
 taken in turn, no text is damaged, and each is written by `--show bare`, `why` and `all`; with `--damaged` each is damaged, and written by one of them. The profile `forms` is that of bench/programs.py,
 with functions and DO WHILE: small texts, a share of which is refused. With `--statements` what is read, refused and written is compared alone, without the lines of analyses, which takes the reference
-much less time. With `--reductions` each is written a second time with that word. Prints how many texts were accepted, and by which codes the others were refused.
+much less time. With `--reductions`, `--bounds` or both each is written with each of these words, and with both, too. With `--once` no text is damaged, and each is written by one of bare, why and all. Prints how many texts were accepted, and by which codes the others were refused.
 The texts that differ are written to the folder for temporary files.
 """
 import argparse
+import itertools
 import os
 import random
 import re
@@ -244,6 +245,10 @@ DAMAGES = [
 
 
 SHOWS = ('bare', 'why', 'all')
+# words that add lines or clauses
+FLAGS = ('--reductions', '--bounds')
+# what they add
+WORDS = {b'REDUCTION(': 'a REDUCTION clause', b'C> SAFE ': 'a SAFE line', b'C> CHECK ': 'a CHECK line'}
 
 
 def made(programs, seed, profile):
@@ -273,14 +278,16 @@ def whole_texts(programs, seeds, profiles, shows):
 def given_texts(programs, options):
     """Words and a text, by the words of the script."""
     seeds = range(options.first, options.first + options.count)
-    if options.damaged or not options.profiles:
+    if options.once:
+        texts = (text for seed in seeds for text in whole_texts(programs, [seed], options.profiles or sorted(programs.PROFILES), [SHOWS[seed // 7 % len(SHOWS)]]))
+    elif options.damaged or not options.profiles:
         texts = damaged_texts(programs, seeds, options.profiles or sorted(programs.PROFILES), [1, 1, 1, 2, 3] if options.damaged else [0, 0, 0, 1, 1, 2])
     else:
         texts = whole_texts(programs, seeds, options.profiles, SHOWS[:1] if options.statements else SHOWS)
     for words, text in texts:
-        yield words, text
-        if options.reductions:
-            yield [*words, '--reductions'], text
+        for count in range(len(options.flags) + 1):
+            for flags in itertools.combinations(options.flags, count):
+                yield [*words, *flags], text
 
 
 def read_and_written(words, text):
@@ -321,11 +328,18 @@ def writes_otherwise(binary, place, words, text, wanted):
     return wanted[0] == 0 and answer(binary, place, words, got[1]) != got
 
 
+def lines_with(out):
+    """What of WORDS is in an answer."""
+    return [word for word in WORDS if word in out]
+
+
 def options_of(words):
     parser = argparse.ArgumentParser(usage=__doc__)
     parser.add_argument('--statements', action='store_true')
     parser.add_argument('--damaged', action='store_true')
-    parser.add_argument('--reductions', action='store_true')
+    parser.add_argument('--once', action='store_true')
+    for flag in FLAGS:
+        parser.add_argument(flag, action='append_const', const=flag, dest='flags', default=[])
     parser.add_argument('--from', type=int, default=0, dest='first')
     parser.add_argument('count', type=int)
     parser.add_argument('binary', nargs='*')
@@ -336,14 +350,14 @@ def options_of(words):
 
 def main(words):
     options = options_of(words)
-    programs, codes, differing, reduced = reference.load('programs'), Counter(), 0, 0
-    wanted_of, is_other = (read_and_written, writes_otherwise) if options.statements else (reference.answer, differs)
+    programs, codes, differing, counts = reference.load('programs'), Counter(), 0, Counter()
+    wanted_of, is_other = (read_and_written, writes_otherwise) if options.statements else (reference.Held().answer, differs)
     with tempfile.TemporaryDirectory() as place:
         for number, (words, text) in enumerate(given_texts(programs, options)):
             words = ['--show', 'bare'] if options.statements else words
             wanted = wanted_of(words, text)
             status = wanted[0]
-            reduced += b'REDUCTION' in wanted[1]
+            counts.update(lines_with(wanted[1]))
             codes[int(wanted[2].split()[3]) if status == 1 else f'status {status}' if status else 'accepted'] += 1
             if is_other(options.binary, place, words, text, wanted):
                 differing += 1
@@ -351,7 +365,8 @@ def main(words):
                 with open(path, 'wb') as f:
                     f.write(text.encode('latin-1'))
                 print(f'differs: {path} {" ".join(words)}', flush=True)
-    print(f'{options.count} texts, {differing} differ, {reduced} answers with a REDUCTION clause; ' + ', '.join(f'{code}: {codes[code]}' for code in sorted(codes, key=str)))
+    answers = ', '.join(f'{counts[word]} answers with {name}' for word, name in WORDS.items())
+    print(f'{options.count} texts, {differing} differ, {answers}; ' + ', '.join(f'{code}: {codes[code]}' for code in sorted(codes, key=str)))
     return differing > 0
 
 

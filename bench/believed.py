@@ -21,7 +21,8 @@ OTHER_JOBS = {('pips_top/Run', name) for name in ('Answers', 'Counts', 'Keeps', 
     ('pips_top/Answer', name) for name in ('EndsAnswered', 'EndsAnsweredOver', 'EndsWrittenOver', 'EndsOver', 'FitAlone', 'IsOpened', 'LeavesFiles')} | {
     ('pips_top/Made', 'counted'), ('pips_top/Sample', 'sample_program'), ('pipsmake_base/Saved', 'texts_in'), ('pipsmake_db/AnswerTexts', 'texts_at_end'),
     ('session_texts/Commands', 'commands_of'), ('session_texts/Sources', 'source_modules')}
-ANALYSES = {('pips_top/Shown', 'results_of_program'), ('pipsmake_meaning/ResultEntries', 'results_of_modules'), ('laws_marks/Said', 'reduced_in')}
+ANALYSES = {('pips_top/Shown', 'results_of_program'), ('pipsmake_meaning/ResultEntries', 'results_of_modules'), ('laws_marks/Said', 'reduced_in'),
+            ('bound_check/Checked', 'checked_of')}
 READER = {('pips_top/Reading', 'reading'), ('pips_top/Written', 'written'), ('laws_lines/Marks/Marked', 'ReadMarked'), ('laws_lines/Marks/ClaimsRead', 'ReadClaims'), ('pips_top/ClaimsRead', 'claims_shown'),
            ('pips_top/Shown', 'lines_for')}
 

@@ -304,6 +304,38 @@ def reductions_over_bases():
         yield Case(['--show', 'bare', *REDUCED, 'p.f'], {'p.f': SUMS}, out=call, piece=40)
 
 
+BOUNDED = [*BASE, '--bounds']
+
+
+def bounds_over_bases():
+    """References are judged by the results of the base, also by edited ones: by preconditions, and by what transformers say that statements change."""
+    base = base_of(CALLEE)
+    def nothing_known(value):
+        for at, system in result(value, 'PRECONDITIONS', 'INC')['at']:
+            system['rows'].clear()
+    def another_bound(value):
+        for at, system in result(value, 'PRECONDITIONS', 'INC')['at'][1:]:
+            system['rows'][2] = [0, 101, [['c', 3, 1]]]
+    def no_point(value):
+        for at, system in result(value, 'PRECONDITIONS', 'INC')['at']:
+            system['rows'][:] = [[0, -1, []]]
+    def missing(value):
+        result(value, 'PRECONDITIONS', 'INC')['at'].pop(1)
+    def size_is_changed(value):
+        result(value, 'TRANSFORMERS', 'INC')['at'][0][1]['cells'][:0] = [2]
+    bases = [base, base_of(CALLEE, VERSION_1), base_of(SUMS), *(changed(base, change) for change in (nothing_known, another_bound, no_point, missing, size_is_changed))]
+    for held in bases:
+        yield Case(['--show', 'bare', *BOUNDED, 'p.f'], {'p.f': CALLEE, 'b.json': held})
+        yield Case(['--show', 'why', *BOUNDED, '--reductions', '--verify', 'p.f'], {'p.f': CALLEE, 'b.json': held})
+    yield Case([*BOUNDED, 'p.f'], {'p.f': CALLEE})
+    yield Case([*BOUNDED, '--reductions', 'p.f'], {'p.f': SUMS})
+    yield Case(['--bounds', 'p.f'], {'p.f': CALLEE, 'b.json': base})
+    yield Case([*BOUNDED, '--session', 's'], {'s': b'print\n', 'b.json': base})
+    for call in range(3):
+        yield Case(['--show', 'bare', *BOUNDED, 'p.f'], {'p.f': CALLEE, 'b.json': base}, store=call)
+        yield Case(['--show', 'bare', *BOUNDED, 'p.f'], {'p.f': CALLEE}, out=call, piece=40)
+
+
 # ---- the outside
 
 def failing_stores():
@@ -375,7 +407,7 @@ def short_sources():
         yield Case([*BASE, '--session', 's'], {'s': script})
 
 
-GROUPS = [prefixes, versions_and_shapes, format_numbers, big_numbers, edited_bases, bases_of_today, bases_in_use, reductions_over_bases, failing_stores, failing_outs, failing_errs, words, cut_texts, deep_and_long, short_sources]
+GROUPS = [prefixes, versions_and_shapes, format_numbers, big_numbers, edited_bases, bases_of_today, bases_in_use, reductions_over_bases, bounds_over_bases, failing_stores, failing_outs, failing_errs, words, cut_texts, deep_and_long, short_sources]
 
 
 def main():

@@ -13,7 +13,7 @@ README_LIMIT = 10240
 # where README.md has what is written, beside the source
 COLUMN = 30
 # examples, each with the end of the name of its written text
-REPORTED = {'heat': 'out', 'relief': 'out', 'reading': 'out', 'totals': 'all_reduced'}
+REPORTED = {'heat': 'out', 'relief': 'out', 'reading': 'out', 'totals': 'all_reduced', 'lookup': 'all_bounds'}
 
 
 def passes(*words):

@@ -5,7 +5,7 @@ same base afterwards.
     python3 bench/damage.py COUNT SEED [PATH_TO_PIPS [JOBS [FIRST [PART..]]]]       # PATH_TO_PIPS `reference`: the reference as a program, to try the script
 
 COUNT bases of version 2 or 1 that the reference keeps for small programs, damaged as JSON values (bench/cases_bases.py) or as bytes (flipped, cut, dropped, doubled, numbers edited, pieces exchanged), each opened with
-its program or with another one, with a script, with `--verify` or with `--reductions`; and COUNT texts and scripts, damaged as bytes and lines. Prints how the runs ended. A run that differs is written to the
+its program or with another one, with a script, with `--verify`, `--reductions` or `--bounds`; and COUNT texts and scripts, damaged as bytes and lines. Prints how the runs ended. A run that differs is written to the
 folder for temporary files. Results that nobody would make can be such that the reference has no answer; of these only crashes are looked for. Others are such that nothing says what is made of them,
 regions that name a subscript which their variable does not have: where their answers differ they are counted apart.
 FIRST: the number of the first case, if not 0; stderr tells how far it is, so that a run that was cut off can be gone on with. PARTs: bases, texts; both of them unless one is named.
@@ -20,7 +20,7 @@ import reference
 from cases_bases import BY_HAND, BY_TEXT, BY_VALUE, text_of
 from changed_programs import Changes, made_program
 from command_runs import BASE, Step, compare, program_of
-from session_agreement import as_bytes, reduced, shown
+from session_agreement import as_bytes, flags, shown
 
 # how many programs there are, and how many bytes of a base are damaged at most
 POOL, LONGEST = 48, 6_000
@@ -201,7 +201,7 @@ def base_steps(seed, number):
     stage = pick.choice([reference.VERSION_1, reference.FORMATS_1]) if pick.random() < .4 else reference.STAGE
     files = {'b.json': damaged_base(pick, base_of(chosen, stage)), 'p.f': text, 's': pick.choice([b'', b'print\n', b'show MARKS P\nprint\n', b'make PRINTED P\n'])}
     verify = ['--verify'] if pick.random() < .4 else []
-    use = ['--session', 's'] if pick.random() < .3 else [*reduced(pick), 'p.f']
+    use = ['--session', 's'] if pick.random() < .3 else [*flags(pick), 'p.f']
     words = [*shown(pick), *BASE, *verify, *use]
     yield Step(words, files, partial(is_open, words))
     if pick.random() < .1:
@@ -219,7 +219,7 @@ def text_steps(seed, number):
         yield Step([*shown(pick), *base, '--session', 'p.f'], {'p.f': damaged(pick, as_bytes(script))})
     else:
         text = program_text(pick.randrange(POOL)) if pick.random() < .5 else reference.load('programs').make(pick.randrange(10 ** 6), pick.choice(['tiny', 'small', 'sums', 'edges', 'refs']))[0]
-        yield Step([*shown(pick), *base, *reduced(pick), 'p.f'], {'p.f': damaged(pick, as_bytes(text))})
+        yield Step([*shown(pick), *base, *flags(pick), 'p.f'], {'p.f': damaged(pick, as_bytes(text))})
 
 
 class Named:

@@ -1,6 +1,6 @@
 #!/usr/bin/env python3
 """Checks the examples of docs/LANGUAGE.md by the reference implementation, table by table: each refusal by its code, name and keyword, each
-text that is to be written instead, each fault by its number, and each loop by its obstacle or its REDUCTION clauses.
+text that is to be written instead, each fault by its number, each loop by its obstacle or its REDUCTION clauses, and each reference by its line SAFE or CHECK.
 
     python3 bench/language.py
 """
@@ -119,6 +119,23 @@ def check_not_reduced(_, example, helps):
     return None if helps == 'nothing' or reduced(helps)[1] else 'what helps has no REDUCTION clause'
 
 
+def bounds_lines(cell):
+    """The lines on references in an example."""
+    lines = written(text_of(span(cell)), 'bare', '--bounds')
+    return None if lines is None else [line for line in lines if line.startswith(('C> SAFE ', 'C> CHECK '))]
+
+
+def check_safe(_, example, line):
+    return None if span(line) in (bounds_lines(example) or []) else f'has not the line {line}'
+
+
+def check_unsafe(_, example, line, helps):
+    if span(line) not in (bounds_lines(example) or []):
+        return f'has not the line {line}'
+    lines = bounds_lines(helps)
+    return None if lines and not any(line.startswith('C> CHECK ') for line in lines) else 'what helps has a CHECK line'
+
+
 CHECKS = {
     ('Code', 'Name', 'Where', 'Example'): check_refusal,
     ('Fault', 'Name', 'What ends the run', 'Everyday forms of it', 'Example'): check_fault,
@@ -127,6 +144,8 @@ CHECKS = {
     ('Operator', 'Assignments', 'Example', 'Line'): check_reduced,
     ('Not recognised', 'For example', 'What helps'): check_not_reduced,
     ('Reason', 'For example', 'Line', 'What helps'): check_loop,
+    ('Safe', 'For example', 'Line'): check_safe,
+    ('Reason for CHECK', 'For example', 'Line', 'What helps'): check_unsafe,
     ('Program', 'Line', 'Text', 'What to change'): check_obstacle,
 }
 

@@ -38,12 +38,12 @@ def written(command, place, show, text):
     return done.returncode, done.stdout.decode('latin-1')
 
 
-def compiled(place, name, text, openmp):
-    """The program that gfortran makes of a text, and what it says where it makes none."""
+def compiled(place, name, text, more):
+    """The program that gfortran makes of a text with these further options, and what it says where it makes none."""
     source, binary = os.path.join(place, f'{name}.f'), os.path.join(place, name)
     with open(source, 'w', encoding='latin-1') as file:
         file.write(text)
-    done = subprocess.run(['gfortran', *OPTIONS, *(['-fopenmp'] if openmp else []), '-o', binary, source], stdout=subprocess.PIPE, stderr=subprocess.PIPE)
+    done = subprocess.run(['gfortran', *OPTIONS, *more, '-o', binary, source], stdout=subprocess.PIPE, stderr=subprocess.PIPE)
     return (binary, '') if done.returncode == 0 else (None, done.stderr.decode('latin-1'))
 
 
@@ -72,7 +72,7 @@ def all_compiled(place, texts, say, counts):
     made = {}
     for show, text in texts.items():
         for openmp in (False, True):
-            made[show, openmp], error = compiled(place, f'{show}{int(openmp)}', text, openmp)
+            made[show, openmp], error = compiled(place, f'{show}{int(openmp)}', text, ['-fopenmp'] if openmp else [])
             counts['texts compiled'] += made[show, openmp] is not None
             if made[show, openmp] is None:
                 say(f'not compiled: --show {show}{" with -fopenmp" if openmp else ""}: ' + ' / '.join(sorted(set(re.findall('Error: (.*)', error)))))

@@ -6,7 +6,8 @@
     python3 bench/pack.py --answers [PART..] # writes the wanted bytes by the reference, of all files or of those with a PART in their path
 
 A program NAME.f is a case for each file of wanted bytes beside it: NAME.all, NAME.bare and NAME.why are what `--show all`, `--show bare`
-and `--show why` write, NAME.out what is written without words, and NAME.err the line of a refusal, of a run without words. NAME.all_reduced and so on are what is written with `--reductions` too.
+and `--show why` write, NAME.out what is written without words, and NAME.err the line of a refusal, of a run without words. NAME.all_reduced and so on are what is written with `--reductions` too,
+NAME.all_bounds with `--bounds`, and NAME.all_reduced_bounds with both.
 tests/words/NAME.words is a command line, in which p.f names tests/words/p.f; what it answers is NAME.out or NAME.err. A script
 tests/sessions/NAME.script is answered with `--session` by NAME.out. A case is added
 by adding its files: for --answers an empty file of wanted bytes will do. The cases come in the order of their paths, and after them those
@@ -20,7 +21,8 @@ TESTS = os.path.join(TOP, 'tests')
 FOLDERS = [os.path.join(TESTS, 'accepted'), os.path.join(TESTS, 'refused'), os.path.join(TESTS, 'words'), os.path.join(TESTS, 'sessions'), os.path.join(TOP, 'examples')]
 PROGRAM, SCRIPT, LINE = '.f', '.script', '.words'
 WORDS = {'.all': b'--show all p.f', '.bare': b'--show bare p.f', '.why': b'--show why p.f', '.out': b'p.f', '.err': b'p.f'}
-WORDS.update({end + '_reduced': words + b' --reductions' for end, words in list(WORDS.items())[:3]})
+FLAGS = {'_reduced': b' --reductions', '_bounds': b' --bounds', '_reduced_bounds': b' --reductions --bounds'}
+WORDS.update({end + name: WORDS[end] + flags for name, flags in FLAGS.items() for end in ('.all', '.bare', '.why')})
 
 
 def content(path):

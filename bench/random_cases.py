@@ -5,7 +5,7 @@
 
 COUNT random programs of every form, 200 where it is not given, and 40 with functions and DO WHILE; then with `--show all` the programs of region_programs.py, in_programs.py and out_programs.py that are
 accepted, those by hand and random ones, as many of each as REGIONS says. The lines that their scripts want must be among those written, or it stops. Last come REDUCED programs of the reference's random ones, with
-`--show why --reductions`, half of which have a REDUCTION clause at least.
+`--show why --reductions`, half of which have a REDUCTION clause at least, and BOUNDED with `--show bare --bounds`, which have a SAFE line and a CHECK line each.
 """
 import os
 import sys
@@ -24,6 +24,7 @@ from region_programs import region_programs
 REGIONS = 150
 FUNCTIONS = 40
 REDUCED = 40
+BOUNDED = 40
 
 
 def code_of(status, err):
@@ -73,10 +74,22 @@ def of_reductions():
                 yield words, program
 
 
+def of_bounds():
+    """Short programs of every profile, with references of both kinds."""
+    words, profiles, left = '--show bare --bounds', sorted(load('programs').PROFILES), BOUNDED
+    for seed in range(1_000):
+        program = load('programs').make(seed, profiles[seed % len(profiles)])[0]
+        if len(program) < 2_000 and left:
+            status, out, _ = answer(words.split(), program)
+            if status == 0 and b'C> SAFE ' in out and b'C> CHECK ' in out:
+                left -= 1
+                yield words, program
+
+
 def main(count=200):
     sys.setrecursionlimit(1_000_000)
     given, wanted, codes = [], [], Counter()
-    for words, program in [*random_programs(int(count)), *random_programs(FUNCTIONS, 2, True), *of_regions(), *of_reductions()]:
+    for words, program in [*random_programs(int(count)), *random_programs(FUNCTIONS, 2, True), *of_regions(), *of_reductions(), *of_bounds()]:
         status, out, err = answer(words.split(), program)
         given.append(f'{program}\n== {words} p.f\n'.encode('latin-1'))
         wanted.append(f'== {status_of(err) if status else "Done"}\n'.encode() + out + err)

@@ -4,7 +4,7 @@
     python3 bench/session_agreement.py COUNT [PATH_TO_PIPS [JOBS [PART..]]]     # PATH_TO_PIPS `reference`: the reference as a program, to try the script
 
 COUNT sessions of up to 30 commands, half of them with a base, which two or three of them use one after another; and COUNT uses of a base: a program, then the same one with
-a module changed, taken away, brought back or in another place, or with modules in another order, each with what `--show`, `--verify` and `--reductions` give, now and then with a session between that
+a module changed, taken away, brought back or in another place, or with modules in another order, each with what `--show`, `--verify`, `--reductions` and `--bounds` give, now and then with a session between that
 makes some of the results. Nearly half of the runs find a base of version 1, or one in which each kind has the format number 1, of the program as it is, as it was before, or as a session left it. Modules change as in bench/changed_programs.py. Last COUNT lines of words, most of which are refused: options twice, with values behind `=` or without, `--`, words that are no
 UTF-8. Prints how the runs ended. A run that differs is written to the folder for temporary files. PARTs: sessions, bases, words; all of them unless some are named.
 """
@@ -13,6 +13,7 @@ import sys
 from functools import cache
 
 import reference
+from agreement import FLAGS
 from changed_programs import Changes, made_program, names_of, random_program
 from command_runs import BASE, Step, compare, program_of
 from session_programs import KINDS, SHOWS
@@ -30,8 +31,8 @@ def verified(pick):
     return ['--verify'] if pick.random() < .3 else []
 
 
-def reduced(pick):
-    return ['--reductions'] if pick.random() < .4 else []
+def flags(pick):
+    return [flag for flag in FLAGS if pick.random() < .4]
 
 
 def session_steps(number):
@@ -69,7 +70,7 @@ def base_steps(number):
         if pick.random() < .45:
             script = as_bytes(script_of(pick, list(names_of(program)))) if pick.random() < .3 else None
             old = kept_before(pick.choice([reference.VERSION_1, reference.FORMATS_1]), before if pick.random() < .7 else text, script)
-        yield Step(shown(pick) + BASE + verified(pick) + reduced(pick) + ['p.f'], {'p.f': text, **old})
+        yield Step(shown(pick) + BASE + verified(pick) + flags(pick) + ['p.f'], {'p.f': text, **old})
         if pick.random() < .2:
             yield Step(BASE + verified(pick) + ['--session', 's'], {'s': as_bytes(script_of(pick, list(names_of(program)))), **(old if pick.random() < .5 else {})})
         before = text
@@ -77,7 +78,7 @@ def base_steps(number):
 
 
 # what stands on a command line; the last word is no UTF-8
-WORDS = ['--show', 'all', 'bare', 'why', 'loud', '--show=all', '--show=bare', '--show=', '--base', '--base=b.json', 'b.json', '--base=-', '-', '--base=', '--verify', '--verify=', '--verify=1', '--reductions', '--reductions', '--reductions=', '--reduction', '--session', '--session=',
+WORDS = ['--show', 'all', 'bare', 'why', 'loud', '--show=all', '--show=bare', '--show=', '--base', '--base=b.json', 'b.json', '--base=-', '-', '--base=', '--verify', '--verify=', '--verify=1', '--reductions', '--reductions', '--reductions=', '--reduction', '--bounds', '--bounds', '--bounds=', '--bound', '--session', '--session=',
          '--session=x', '--generate', '--generate=4', '4', '0', '04', '+4', '200', '201', '4.0', '--generate=', 'p.f', 's', 'nope', '', '--', '-h', '--help', '--version', '-V', '-s', '-b', '-p.f', '---', '--sho', '--base=-b',
          'help', '--show=loud', '--BASE', '--Show', 'all ', 'é', '--generate=200', '--no-verify', '-vs', '--=', '--show all', '\udcff']
 

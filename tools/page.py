@@ -5,7 +5,7 @@ from typing import Dict, List, Optional, Tuple
 
 from calls import drawing
 from reasons import LONG, accesses_in_words, clauses_in_words, in_words
-from written import Loop, Program, Statement, is_title, obstacles
+from written import Loop, Program, Statement, is_title, obstacles, references
 
 STYLE = """
 :root { color-scheme: light dark; --text: #1d2330; --soft: #5d6675; --ground: #ffffff; --card: #f5f6f8; --line: #d9dde3;
@@ -39,6 +39,7 @@ summary:hover { background: var(--card); }
 .loop.yes { background: var(--yes-ground); } .loop.no { background: var(--no-ground); }
 .mark { flex: 0 1 auto; overflow-wrap: anywhere; font: 13px/20px system-ui, sans-serif; border-radius: 10px; padding: 0 10px; margin-left: 12px; color: var(--ground); }
 .mark.yes { background: var(--yes); } .mark.no { background: var(--no); }
+.mark.check { background: var(--soft); }
 .mark a { color: inherit; }
 .said { margin: 4px 12px 12px 76px; padding: 8px 14px; border-left: 3px solid var(--line); background: var(--card); }
 .said table { border-collapse: collapse; } .said td { vertical-align: top; padding: 1px 18px 1px 0; } .said td:first-child { white-space: nowrap; }
@@ -50,6 +51,7 @@ dt { font-weight: 600; margin-top: 12px; } dd { margin: 2px 0 0; max-width: 80ch
 KINDS = {'READ': 'reads', 'WRITE': 'writes', 'IN': 'reads before it writes', 'OUT': 'writes, and may be read later'}
 AMOUNTS = {'EXACT': 'all of these', 'MAY': 'no others'}
 REGION = re.compile(r'C> (READ|WRITE|IN|OUT) (\S+) (\{.*\}) (EXACT|MAY)( WEAK)?')
+CHECKS = {'SAFE': 'stays inside its array', 'CHECK': 'perhaps outside its array'}
 SCALARS = re.compile(r'C> (P|T)(?: ([^{]*))? (\{.*\})( WEAK)?')
 
 
@@ -93,6 +95,12 @@ def claim_row(line: str, at_entry: bool) -> Optional[str]:
     return f'<tr><td>{what}</td><td class="rows">{rows_in_words(kind, rows)}</td><td class="soft">{more}</td></tr>'
 
 
+def check_rows(statement: Statement) -> List[str]:
+    """The lines on references as rows of a table."""
+    lists = {word: statement.references(word) for word in CHECKS}
+    return [f'<tr><td>{CHECKS[word]}</td><td class="rows"><code>{escape(", ".join(found))}</code></td><td></td></tr>' for word, found in lists.items() if found]
+
+
 def mark_in_words(loop: Loop) -> str:
     """Why a loop is parallel or serial, with a link to what the reason means."""
     if loop.private is not None:
@@ -107,7 +115,7 @@ def mark_in_words(loop: Loop) -> str:
 def said_of(statements: List[Statement], loop: Optional[Loop]) -> str:
     """All that is said of the statements that begin in a line, or nothing."""
     rows = [claim_row(line, is_title(statement.text)) for statement in statements for line in statement.said]
-    table = ''.join(row for row in rows if row)
+    table = ''.join([row for row in rows if row] + [row for statement in statements for row in check_rows(statement)])
     return (mark_in_words(loop) if loop else '') + (f'<table>{table}</table>' if table else '')
 
 
@@ -122,6 +130,12 @@ def badge(loop: Loop) -> str:
     name = loop.obstacle.split()[0]
     of = f' of {escape(name)}' if name != loop.reason else ''
     return f'<span class="mark no">serial: <a href="#why-{loop.reason}">{loop.reason}</a>{of}</span>'
+
+
+def check_badge(statements: List[Statement]) -> str:
+    """The references that may leave their array, at the end of the line of their statement."""
+    found = [reference for statement in statements for reference in statement.references('CHECK')]
+    return f'<span class="mark check">check {escape(", ".join(found))}</span>' if found else ''
 
 
 def bars(number: int, loops: List[Loop], depth: int) -> str:
@@ -160,7 +174,7 @@ class Listing:
         """What every row has: number, bars, text, and of a DO its mark."""
         loop = self.loops.get(number)
         return (f'<span class="fold"></span><a class="number code" id="{self.anchor(number)}" href="#{self.anchor(number)}">{number}</a>'
-                f'{bars(number, self.program.loops, self.depth)}<span class="text code">{shown(text)}</span>{badge(loop) if loop else ""}')
+                f'{bars(number, self.program.loops, self.depth)}<span class="text code">{shown(text)}</span>{badge(loop) if loop else ""}{check_badge(self.statements.get(number, []))}')
 
     def row(self, number: int, text: str) -> str:
         """A line, folded where something is said of its statement."""
@@ -183,6 +197,7 @@ def numbers(program: Program) -> str:
     parallel = len(program.loops) - sum(serial.values())
     counts: List[Tuple[int, str]] = [(len(program.modules), 'modules'), (len(program.loops), 'loops'), (parallel, 'parallel'), (sum(serial.values()), 'serial')]
     counts += [(number, f'<a href="#why-{reason}">{reason}</a>') for reason, number in serial.items()]
+    counts += [(number, f'references {what}') for number, what in ((references(program, 'SAFE'), 'safe'), (references(program, 'CHECK'), 'to check')) if number]
     return '<div class="numbers">' + ''.join(f'<div><b>{number}</b>{what}</div>' for number, what in counts) + '</div>'
 
 
@@ -206,6 +221,7 @@ CLAIMS = """<h2>How to read what is said</h2>
 begins. In a region <code>PHI1</code>, <code>PHI2</code> are the subscripts of an element, of a COMMON block the number of the unit. "All of these" says that each element
 that satisfies the constraints is accessed at a normal end; "no others" that no other one is, and perhaps not each. Every claim is about the program as it is written, one
 iteration after another, up to the first fault of a run; "may be read later" is about runs without a fault. The analyses are cautious: a serial loop may be parallel in truth.</p>
+<p>"Stays inside its array" holds whenever a reference is evaluated, in every run. A reference that is perhaps outside may be inside in truth: the analysis does not see why.</p>
 <p>Storage that has several names is told under the one by which it was reached. Temporaries and locals of called modules have no lines, and neither has the statement
 inside a logical IF.</p>
 """

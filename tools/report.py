@@ -5,6 +5,7 @@
     tools/report.py FILE.. -o PAGE          # and one HTML file: the sources with what is said of each statement, and who calls whom
     tools/report.py --written TEXT FILE     # the text that `./pips --show all FILE` wrote stands in TEXT, and the command is not started
     tools/report.py --reductions FILE..     # by `./pips --reductions`: loops with REDUCTION clauses are parallel too
+    tools/report.py --bounds FILE..         # by `./pips --bounds`: a line, too, for each statement with a reference that may leave its array
 
 Each FILE is a program of its own. The status is 1 where one is refused, and 2 where the command or a file cannot be used.
 """
@@ -13,14 +14,14 @@ import os
 import re
 import subprocess
 import sys
-from typing import List, NoReturn, Optional
+from typing import Iterator, List, NoReturn, Optional, Tuple
 
 sys.dont_write_bytecode = True
 sys.path.insert(0, os.path.dirname(os.path.realpath(__file__)))
 
 from page import page_of  # noqa: E402
 from reasons import clauses_in_words, in_words  # noqa: E402
-from written import Loop, Program, obstacles, program_of  # noqa: E402
+from written import Loop, Program, Statement, obstacles, program_of, references  # noqa: E402
 
 PIPS = os.path.join(os.path.dirname(os.path.dirname(os.path.realpath(__file__))), 'pips')
 
@@ -81,6 +82,11 @@ def note_of(path: str, loop: Loop) -> str:
     return f'{start}: parallel' + (f', with {" and ".join(copies + reduced)}' if copies or reduced else '')
 
 
+def check_of(path: str, statement: Statement) -> str:
+    """What may leave its array in a statement, in one line."""
+    return f'{path}:{statement.first}: note: check {", ".join(statement.references("CHECK"))}: perhaps outside the array'
+
+
 def count(number: int, word: str) -> str:
     return f'{number} {word}{"" if number == 1 else "s"}'
 
@@ -93,12 +99,28 @@ def summary_of(program: Program) -> str:
     clauses = sum(len(loop.reductions) for loop in program.loops)
     reduced = f' ({count(sum(bool(loop.reductions) for loop in program.loops), "loop")} with {count(clauses, "REDUCTION clause")})' if clauses else ''
     counts = f'{count(len(program.modules), "module")}, {count(len(program.loops), "loop")}'
-    return f'{program.name}: {counts}, {parallel} parallel{reduced}, {sum(serial.values())} serial' + (f' ({why})' if why else '')
+    return f'{program.name}: {counts}, {parallel} parallel{reduced}, {sum(serial.values())} serial' + (f' ({why})' if why else '') + safety_of(program)
+
+
+def safety_of(program: Program) -> str:
+    """How many references to array elements are safe; nothing where no line says it."""
+    safe, others = references(program, 'SAFE'), references(program, 'CHECK')
+    return f'; {count(safe + others, "reference")} to array elements, {safe} safe' if safe + others else ''
+
+
+def notes(program: Program) -> Iterator[Tuple[int, str]]:
+    """Each line on a loop or a reference, after the number of its line in the source."""
+    for loop in program.loops:
+        yield loop.statement.first, note_of(program.name, loop)
+    for module in program.modules:
+        for statement in module.statements:
+            if statement.references('CHECK'):
+                yield statement.first, check_of(program.name, statement)
 
 
 def tell(program: Program) -> None:
-    for loop in program.loops:
-        print(note_of(program.name, loop))
+    for _, note in sorted(notes(program), key=lambda note: note[0]):
+        print(note)
     print(summary_of(program))
 
 
@@ -109,7 +131,8 @@ def words() -> argparse.Namespace:
     parser.add_argument('files', nargs='+', metavar='FILE', help='a program in fixed-form FORTRAN 77')
     parser.add_argument('-o', dest='page', metavar='PAGE', help='the HTML file to be written')
     parser.add_argument('--written', metavar='TEXT', action='append', default=[], help='what --show all wrote of FILE; one for each FILE, in their order')
-    parser.add_argument('--reductions', action='store_true', help='loops with REDUCTION clauses are parallel too')
+    parser.add_argument('--reductions', action='append_const', dest='flags', default=[], const='--reductions', help='loops with REDUCTION clauses are parallel too')
+    parser.add_argument('--bounds', action='append_const', dest='flags', const='--bounds', help='a line for each statement with a reference that may leave its array')
     given = parser.parse_args()
     if given.written and len(given.written) != len(given.files):
         parser.error('--written is given once for each FILE')
@@ -120,8 +143,7 @@ def main() -> int:
     given = words()
     sys.stdout.reconfigure(errors='surrogateescape')
     texts: List[Optional[str]] = given.written or [None] * len(given.files)
-    flags = ['--reductions'] if given.reductions else []
-    found = [read(path, text, flags) for path, text in zip(given.files, texts)]
+    found = [read(path, text, sorted(set(given.flags))) for path, text in zip(given.files, texts)]
     programs = [program for program in found if program]
     for program in programs:
         tell(program)

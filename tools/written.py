@@ -16,6 +16,11 @@ class Statement:
     last: int
     said: List[str] = field(default_factory=list)
 
+    def references(self, word: str) -> List[str]:
+        """The references to array elements in the line of a word, SAFE or CHECK, before the statement."""
+        start = f'C> {word} '
+        return next((references_of(line[len(start):]) for line in self.said if line.startswith(start)), [])
+
 
 @dataclass
 class Original:
@@ -78,6 +83,20 @@ class Program:
     @property
     def loops(self) -> List[Loop]:
         return [loop for module in self.modules for loop in module.loops]
+
+
+# ---- lines into references
+
+def references_of(text: str) -> List[str]:
+    """References that are separated by the commas outside parentheses."""
+    found, depth = [''], 0
+    for letter in text:
+        depth += (letter == '(') - (letter == ')')
+        if letter == ',' and not depth:
+            found.append('')
+        else:
+            found[-1] += letter
+    return found
 
 
 # ---- lines into statements
@@ -231,6 +250,11 @@ def program_of(name: str, source: str, written: str) -> Program:
 
 
 # ---- of a whole program
+
+def references(program: Program, word: str) -> int:
+    """How many references to array elements the lines of a word, SAFE or CHECK, have."""
+    return sum(len(statement.references(word)) for module in program.modules for statement in module.statements)
+
 
 def obstacles(program: Program) -> Dict[str, int]:
     """How many serial loops have each reason, most first."""

@@ -11,7 +11,7 @@ mod sides;
 
 pub use cells::{actual_form, cell_name, form_of, named_form};
 pub use equations::{link_of, rank_of};
-pub use forms::{equation, number, offset, sum_of, zero};
+pub use forms::{equation, number, offset, sum_of, unless_among, zero};
 pub use link::Link;
 pub use positions::{before_dimensions, size_of};
 pub use rows::{all_affine, constant_form, next_dimension, rows_of};

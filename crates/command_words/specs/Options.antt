@@ -21,6 +21,7 @@ options_in rows = record {
   session = is_true (first_of (codes "session") rows);
   generate = first_of (codes "generate") rows;
   reductions = is_true (first_of (codes "reductions") rows);
+  bounds = is_true (first_of (codes "bounds") rows);
   input = first_of (codes "input") rows;
 }
 

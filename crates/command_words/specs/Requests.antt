@@ -48,11 +48,11 @@ count_named word = if begins_with_zero word then None else at_most_200 (number_n
 
 -- --generate stands beside --show alone, and without INPUT
 abbrev pub is_alone : Options → Bool
-is_alone o = not (is_some o.input) && not o.session && not (is_some o.base) && not o.verify && not o.reductions
+is_alone o = not (is_some o.input) && not o.session && not (is_some o.base) && not o.verify && not o.reductions && not o.bounds
 
--- --reductions is for programs, not for scripts
+-- --reductions and --bounds are for programs, not for scripts
 abbrev pub session_task : Options → Option Task
-session_task o = if o.reductions then None else Some Session
+session_task o = if o.reductions || o.bounds then None else Some Session
 
 abbrev pub task_for : Options → Option (List ℕ) → Option Task
 task_for o None = if o.session then session_task o else Some Write
@@ -79,7 +79,7 @@ input_name (Some name) = name
 abbrev pub request_with : Options → Option Show → Option Task → Option Request
 request_with o None task = None
 request_with o (Some show) None = None
-request_with o (Some show) (Some task) = Some (record { task = task; show = show; base = o.base; verify = o.verify; reductions = o.reductions; input = input_name o.input })
+request_with o (Some show) (Some task) = Some (record { task = task; show = show; base = o.base; verify = o.verify; reductions = o.reductions; bounds = o.bounds; input = input_name o.input })
 
 abbrev pub request_in : Options → Option Request
 request_in o = if may_be_base o.base && can_verify o then request_with o (shown o.show) (task_of o) else None

@@ -45,7 +45,7 @@ fn with<'a>(command: Command<'a>, arg: Arg<'a>) -> Result<Command<'a>, AllocErro
     command.arg(arg)
 }
 
-/// The command with `--show`, `--base`, `--verify`, `--session`, `--generate`, `--reductions` and INPUT, each at most once.
+/// The command with `--show`, `--base`, `--verify`, `--session`, `--generate`, `--reductions`, `--bounds` and INPUT, each at most once.
 pub fn command<'a>(alloc: Global) -> Result<Command<'a>, AllocError>
     ensures { IfOk result (λ c. app_of c ≡ pips_app) }
 {
@@ -55,6 +55,7 @@ pub fn command<'a>(alloc: Global) -> Result<Command<'a>, AllocError>
     let command = with(command, flag(alloc, "session"))?;
     let command = with(command, valued(alloc, "generate"))?;
     let command = with(command, flag(alloc, "reductions"))?;
+    let command = with(command, flag(alloc, "bounds"))?;
     let command = with(command, input(alloc))?;
     Ok(command)
 }

@@ -67,6 +67,7 @@ pub struct Options {
     pub session: bool,
     pub generate: Option<Text>,
     pub reductions: bool,
+    pub bounds: bool,
     pub input: Option<Text>,
 }
 
@@ -89,6 +90,7 @@ fn options_of(alloc: Global, matches: &ArgMatches<'_>) -> Result<Options, AllocE
     let session = is_set(matches, "session");
     let generate = value_of(alloc, matches, "generate")?;
     let reductions = is_set(matches, "reductions");
+    let bounds = is_set(matches, "bounds");
     let input = value_of(alloc, matches, "input")?;
     Ok(Options {
         show,
@@ -97,6 +99,7 @@ fn options_of(alloc: Global, matches: &ArgMatches<'_>) -> Result<Options, AllocE
         session,
         generate,
         reductions,
+        bounds,
         input,
     })
 }

@@ -40,6 +40,8 @@ pub struct Request {
     pub verify: bool,
     /// Whether loops with reduction variables run in parallel.
     pub reductions: bool,
+    /// Whether references to array elements are judged.
+    pub bounds: bool,
     /// The name of INPUT; `-` is standard input.
     pub input: Text,
 }
@@ -119,13 +121,14 @@ fn is_alone(options: &Options) -> bool
         && options.base.is_none()
         && !options.verify
         && !options.reductions
+        && !options.bounds
 }
 
-/// The task of `--session`, which does not stand with `--reductions`.
+/// The task of `--session`, which stands with neither `--reductions` nor `--bounds`.
 fn session_task(options: &Options) -> Option<Task>
     ensures { result ≡ session_task options.now }
 {
-    if options.reductions {
+    if options.reductions || options.bounds {
         None
     } else {
         Some(Task::Session)
@@ -197,6 +200,7 @@ fn request_in(alloc: Global, options: Options) -> Result<Option<Request>, Memory
             base: options.base,
             verify: options.verify,
             reductions: options.reductions,
+            bounds: options.bounds,
             input: input_name(alloc, options.input)?,
         })),
         _ => Ok(None),
@@ -205,7 +209,7 @@ fn request_in(alloc: Global, options: Options) -> Result<Option<Request>, Memory
 
 /// What the words after the program's name request. None where they are no words of the command: an option is unknown, stands twice or
 /// has no value, or a value is not one that it takes; a word is not UTF-8; there are two INPUTs; `--verify` stands without `--base`,
-/// `--generate` with another option than `--show` or with INPUT, or `--reductions` with `--session`.
+/// `--generate` with another option than `--show` or with INPUT, or `--reductions` or `--bounds` with `--session`.
 pub fn request_of(alloc: Global, words: &Words) -> Result<Option<Request>, Memory>
     ensures { RequestedBy words.now result }
 {

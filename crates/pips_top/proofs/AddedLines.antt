@@ -7,6 +7,7 @@ use Rattle.f77_ast.specs.Trees.{StmtTree, WhatTree, ArmTree, ArmTrees, ElseTree,
 use Rattle.f77_ast.specs.Trees as tree
 use Rattle.f77_ast.specs.Hidden.{is_hidden}
 use Rattle.f77_ast.specs.DeclTrees.{ParsedTree}
+use Rattle.f77_ast.specs.Symbols.{SymbolTree}
 use Rattle.f77_printer.specs.declared.added.Added.{Added}
 use Rattle.call_graph.specs.declared.graph.Graph.{Graph}
 use Rattle.f77_meaning.specs.Modules.{Known, known_of, symbol_names}
@@ -34,11 +35,15 @@ use Rattle.laws_lines.specs.Regions.LineLaws.{RegionLinesPass, AllRegionLinesPas
 use Rattle.laws_lines.specs.Ins.Laws.{InLinesPass, AllInLinesPass}
 use Rattle.laws_lines.specs.Outs.Laws.{OutLinesPass, AllOutLinesPass}
 use Rattle.laws_lines.specs.Marks.Laws.{LoopLinesArePassedOver}
+use Rattle.laws_bounds.specs.bound_check.CheckLines.{check_lines_of}
+use Rattle.laws_bounds.specs.bound_check.Checked.{Knowledge as Judging, checked_of}
+use Rattle.laws_bounds.specs.LinesPass.{ChecksPass}
+use Rattle.laws_bounds.specs.Said.{knowledge_by}
 use Rattle.laws_lines.proofs.Regions.ProgramRegions.{ModuleFine, ModuleTold, each_named, regions_with, all_told, modules_fine}
 use Rattle.laws_lines.proofs.Regions.LinesPass.{names_shown}
 use Rattle.pipsmake_base.specs.pipsmake_meaning.ResultEntries.{results_for}
-use Rattle.laws_marks.specs.Said.{reductions_of, reduced_in}
-use Rattle.pips_top.specs.Shown.{results_of_program, lines_with, lines_for}
+use Rattle.laws_bounds.specs.laws_marks.Said.{reductions_of, reduced_in}
+use Rattle.pips_top.specs.Shown.{checks_of, results_of_program, lines_with, lines_for}
 use Rattle.pips_top.specs.Program.{ProgramTree}
 use Rattle.pips_top.specs.declared.wanted.Wanted.{Wanted}
 use Rattle.pipsmake_base.specs.result_lines.declared.show.Show.{Show}
@@ -47,7 +52,7 @@ use Rattle.pips_top.proofs.LinesFound.{region_lines_found, scalar_lines_found, c
 use Rattle.pips_top.proofs.Programs.{each_at}
 use Rattle.pips_top.proofs.MarkNames.{MarksNamed, ReductionsNamed, found_named, reduced_named, all_shown}
 use Rattle.pips_top.proofs.Said.{said_at, regions_at, ins_at, outs_at, marks_are}
-use Rattle.fx_lists.proofs.Every.{every_at}
+use Rattle.fx_lists.proofs.Every.{Every, every_at}
 
 -- ---- the lines of a module
 
@@ -127,7 +132,20 @@ module _ (law : LinesArePassedOver) (k : Said) (shown : AreShown k.names) where
 
 -- ---- what is said of a module
 
--- its symbols have such names, which its marks and reductions name, and the lines of its regions and loops are passed over
+-- the lines on the references of a module are passed over, by whatever they are judged
+abbrev PassesChecks : Known → Type 0
+PassesChecks k = (j : Judging) → Each IsPassedOver (check_lines_of (checked_of j k.read.body))
+
+all_passing : (ms : List ParsedTree) (tables : List (List SymbolTree)) → Each ChecksPass ms → Every PassesChecks (known_of ms tables)
+all_passing [] tables h = tt
+all_passing (m ∷ ms) [] h = tt
+all_passing (m ∷ ms) (t ∷ ts) h = (h.first, all_passing ms ts h.others)
+
+checks-over : (g : Graph) (f : ModuleResults) → PassesChecks f.known → (bounds : Bool) → Each IsPassedOver (checks_of bounds g f)
+checks-over g f h false = tt
+checks-over g f h true = h (knowledge_by g f.known f.transformers f.preconditions)
+
+-- its symbols have such names, which its marks and reductions name, and the lines of its regions, loops and references are passed over
 pub record IsSaid (g : Graph) (f : ModuleResults) : Type 0 where
   pub names : AreShown (symbol_names f.known.symbols)
   pub regions : RegionLinesPass (phases_of f).known.known
@@ -136,14 +154,16 @@ pub record IsSaid (g : Graph) (f : ModuleResults) : Type 0 where
   pub named : MarksNamed IsShown (symbol_names f.known.symbols) f.marks
   pub reduced : ReductionsNamed (symbol_names f.known.symbols) (reduced_in g f)
   pub loops : (reductions why : Bool) → AllByRecursion IsPassedOver (loop_lines_found reductions g why f)
+  pub checks : (bounds : Bool) → Each IsPassedOver (checks_of bounds g f)
 
 from_places : (g : Graph) (fs : List ModuleResults) → ((j : ℕ) (f : ModuleResults) → slice_get fs j ≡ Some f → IsSaid g f) → Each (IsSaid g) fs
 from_places g [] h = tt
 from_places g (f ∷ fs) h = record { first = h zero f refl; others = from_places g fs (λ j x e. h (suc j) x e) }
 
 -- so it is of all that is said of a program
-pub all_said : AllRegionLinesPass → AllInLinesPass → AllOutLinesPass → LoopLinesArePassedOver → (p : ProgramTree) → AreTables p.modules p.tables → AreNamed IsShown (known_of p.modules p.tables) → Each (IsSaid p.graph) (results_of_program p)
-all_said law on_ins on_outs on_loops p t n = from_places g (all_marks g os) each
+pub all_said : AllRegionLinesPass → AllInLinesPass → AllOutLinesPass → LoopLinesArePassedOver → (p : ProgramTree) → Each ChecksPass p.modules → AreTables p.modules p.tables → AreNamed IsShown (known_of p.modules p.tables)
+    → Each (IsSaid p.graph) (results_of_program p)
+all_said law on_ins on_outs on_loops p on_checks t n = from_places g (all_marks g os) each
   where
     g : Graph
     g = p.graph
@@ -170,6 +190,7 @@ all_said law on_ins on_outs on_loops p t n = from_places g (all_marks g os) each
         let at = regions_at g fs here.0 (phases_of f).known here.1 in
         let there = said_at g as' here.0 (phases_of f).known here.1 in
         let named = every_at (λ (r : ModuleRegions). IsNamed IsShown r.analysis.found.known) fs here.0 (phases_of f).known.known (regions_with (IsNamed IsShown) ks g (each_named IsShown ks n)) at in
+        let passes = every_at (λ (r : ModuleRegions). PassesChecks r.analysis.found.known) fs here.0 (phases_of f).known.known (regions_with PassesChecks ks g (all_passing p.modules p.tables on_checks)) at in
         let told = every_at (ModuleTold IsShown g.untracked) as' there.0 (analysis_in (phases_of f)) (all_told IsShown p.modules p.tables g t n) there.1 in
         let fine = every_at (ModuleFine IsShown g.untracked) fs here.0 (phases_of f).known.known (modules_fine IsShown p.modules p.tables g t n) at in
         let names = names_shown f.known.symbols named.1 in
@@ -187,6 +208,7 @@ all_said law on_ins on_outs on_loops p t n = from_places g (all_marks g os) each
               let rs = reductions_of reductions g f in
               subst (AllByRecursion IsPassedOver) (sym (loop_lines_said f.known why rs f.marks))
               (on_loops own why (loops_said f.known rs f.marks) names (all_shown (module_functions f.known.read) own rs f.marks marks));
+          checks = checks-over g f passes;
         }
 
 each_passed : (xs : List Added) → AllByRecursion IsPassedOver xs → AreOver xs
@@ -217,10 +239,14 @@ module _ (law : LinesArePassedOver) where
   loops-over : (reductions : Bool) (g : Graph) (why : Bool) (f : ModuleResults) → IsSaid g f → AreOver (loop_lines_found reductions g why f)
   loops-over reductions g why f h = each_passed (loop_lines_found reductions g why f) (h.loops reductions why)
 
-  module-over : (show : Show) (reductions : Bool) (g : Graph) (f : ModuleResults) → IsSaid g f → AreOver (reduced_lines_of show f.known (printed_of f) (reductions_of reductions g f))
-  module-over All reductions g f h = join (claims_found (phases_of f)) (loop_lines_found reductions g true f) (claims-over g f h) (loops-over reductions g true f h)
-  module-over Bare reductions g f h = loops-over reductions g false f h
-  module-over Why reductions g f h = loops-over reductions g true f h
+  behind-over : (reductions bounds : Bool) (g : Graph) (why : Bool) (f : ModuleResults) → IsSaid g f → AreOver (checks_of bounds g f ++ loop_lines_found reductions g why f)
+  behind-over reductions bounds g why f h = join (checks_of bounds g f) (loop_lines_found reductions g why f) (h.checks bounds) (loops-over reductions g why f h)
+
+  module-over : (show : Show) (reductions bounds : Bool) (g : Graph) (f : ModuleResults) → IsSaid g f → AreOver (reduced_lines_of show f.known (printed_of f) (reductions_of reductions g f) (checks_of bounds g f))
+  module-over All reductions bounds g f h =
+      join (claims_found (phases_of f)) (checks_of bounds g f ++ loop_lines_found reductions g true f) (claims-over g f h) (behind-over reductions bounds g true f h)
+  module-over Bare reductions bounds g f h = behind-over reductions bounds g false f h
+  module-over Why reductions bounds g f h = behind-over reductions bounds g true f h
 
   module _ (show : Wanted) (g : Graph) where
     choice-over : (b : Bool) (o p : Option ModuleResults) → AreOver (lines_with show g o) → AreOver (lines_with show g p) → AreOver (lines_with show g (if b then o else p))
@@ -229,7 +255,7 @@ module _ (law : LinesArePassedOver) where
 
     lines-over : (all : List ModuleResults) (x : List ℕ) → Each (IsSaid g) all → AreOver (lines_for show g all x)
     lines-over [] x h = tt
-    lines-over (f ∷ fs) x h = choice-over (bytes_eq f.known.read.name x) (Some f) (results_for fs x) (module-over show.show show.reductions g f h.first) (lines-over fs x h.others)
+    lines-over (f ∷ fs) x h = choice-over (bytes_eq f.known.read.name x) (Some f) (results_for fs x) (module-over show.show show.reductions show.bounds g f h.first) (lines-over fs x h.others)
 
     pub all_over : (all : List ModuleResults) → Each (IsSaid g) all → (ms : List ParsedTree) → AllPassedOver (λ m. lines_for show g all m.module_read.name) ms
     all_over all h [] = tt

@@ -1,6 +1,6 @@
--- Without reduction variables, lines and texts are those of the results alone.
-use Rattle.std.proofs.Common.{◌≡◌, ℕ, List, [], ◌∷◌, Option, Some, None, refl, ap}
-use Rattle.std.specs.Prelude.{option_map, option_and_then}
+-- Without reduction variables and subscript checks, lines and texts are those of the results alone.
+use Rattle.std.proofs.Common.{◌≡◌, ℕ, Bool, true, false, not, List, [], ◌∷◌, Option, Some, None, refl, ap, ◌∙◌}
+use Rattle.std.specs.Prelude.{◌&&◌, option_map, option_and_then}
 use Rattle.f77_ast.specs.DeclTrees.{ModuleTree}
 use Rattle.f77_printer.specs.ModuleText as printer
 use Rattle.f77_printer.specs.declared.added.Added.{Added}
@@ -23,15 +23,29 @@ use Rattle.pipsmake_base.specs.laws_database.Unverified.{stored_results}
 use Rattle.pipsmake_base.specs.pipsmake_db.Shown.{printed_from, texts_from}
 use Rattle.pips_top.specs.Kept.{module_from, texts_wanted}
 use Rattle.pips_top.specs.Program.{ProgramTree}
-use Rattle.pips_top.specs.Shown.{alone, lines_with, lines_found, results_of_program}
+use Rattle.pips_top.specs.Shown.{alone, is_alone, lines_wanted, lines_with, lines_found, results_of_program}
+use Rattle.pips_top.specs.declared.wanted.Wanted.{Wanted}
 use Rattle.pips_top.specs.Written.{written}
+
+-- ---- what is wanted
+
+alone_by : (s : Show) (r b : Bool) → (not r && not b) ≡ true → record { show = s; reductions = r; bounds = b } ≡ alone s
+alone_by s true b e = cc
+alone_by s false true e = cc
+alone_by s false false e = refl
+
+pub alone_is : (w : Wanted) → is_alone w ≡ true → w ≡ alone w.show
+alone_is w e = alone_by w.show w.reductions w.bounds e
 
 -- ---- lines
 
-pub lines_alone : (s : Show) (k : Known) (r : PrintedResults) → reduced_lines_of s k r [] ≡ lines_of s k r
+pub lines_alone : (s : Show) (k : Known) (r : PrintedResults) → reduced_lines_of s k r [] [] ≡ lines_of s k r
 lines_alone All k r = refl
 lines_alone Bare k r = refl
 lines_alone Why k r = refl
+
+pub wanted_alone : (w : Wanted) (g : Graph) (f : ModuleResults) → is_alone w ≡ true → lines_wanted w g f ≡ lines_of w.show f.known (printed_of f)
+wanted_alone w g f e = ap (λ (v : Wanted). lines_wanted v g f) (alone_is w e) ∙ lines_alone w.show f.known (printed_of f)
 
 with_alone : (s : Show) (g : Graph) (o : Option ModuleResults) → lines_with (alone s) g o ≡ stood.lines_with s o
 with_alone s g None = refl

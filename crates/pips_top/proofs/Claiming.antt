@@ -8,8 +8,8 @@ use Rattle.f77_meaning.specs.Modules.{Known}
 use Rattle.f77_meaning.specs.Linked.{no_module}
 use Rattle.f77_meaning.specs.Occurrences.{Occurrence}
 use Rattle.f77_meaning.specs.Claims.{PreconditionHolds}
-use Rattle.laws_analyses.specs.Statements.Results.{SystemHolds}
-use Rattle.laws_analyses.specs.Claims.{AnalysisHolds, precondition_in, is_tracked}
+use Rattle.laws_bounds.specs.laws_analyses.Statements.Results.{SystemHolds}
+use Rattle.laws_bounds.specs.laws_analyses.Claims.{AnalysisHolds, precondition_in, is_tracked}
 use Rattle.pips_top.specs.Small.{graph}
 use Rattle.pips_top.specs.ExampleLaws.{k_is, says, WrongClaimFails}
 

@@ -7,6 +7,7 @@ use Rattle.laws_programs.specs.roundtrip_programs.Programs.{NamesAreShown}
 use Rattle.laws_lines.specs.Marks.ClaimsRead.{ReadClaims}
 use Rattle.laws_lines.specs.Marks.ClaimLaws.{ClaimsReadBack}
 use Rattle.laws_lines.specs.Marks.Laws.{LoopLinesArePassedOver}
+use Rattle.laws_bounds.specs.LinesPass.{CheckLinesPass}
 use Rattle.laws_lines.specs.Regions.LineLaws.{AllRegionLinesPass}
 use Rattle.laws_lines.specs.Ins.Laws.{AllInLinesPass}
 use Rattle.laws_lines.specs.Outs.Laws.{AllOutLinesPass}
@@ -22,13 +23,13 @@ use Rattle.pips_top.proofs.BlockNames.{modules_shown}
 use Rattle.pips_top.proofs.AddedLines.{all_said, all_over}
 use Rattle.pips_top.proofs.ReadBack.{is_read, text_same}
 
-pub claims_back_from : ClaimsReadBack → LinesArePassedOver → AllRegionLinesPass → AllInLinesPass → AllOutLinesPass → LoopLinesArePassedOver → NamesAreShown → BlocksHaveAChain → ReadWrittenBack → ReadClaimsBack
-claims_back_from law lines on_regions on_ins on_outs on_loops names blocks back show bytes p e =
+pub claims_back_from : ClaimsReadBack → LinesArePassedOver → AllRegionLinesPass → AllInLinesPass → AllOutLinesPass → LoopLinesArePassedOver → CheckLinesPass → NamesAreShown → BlocksHaveAChain → ReadWrittenBack → ReadClaimsBack
+claims_back_from law lines on_regions on_ins on_outs on_loops on_checks names blocks back show bytes p e =
     let i = is_program bytes p e in
     let shown = modules_shown names blocks p.modules p.tables (all_built i.lines p.modules i.parsed) i.tables in
     let all = results_of_program p in
     let added : ParsedTree → List Added = λ m. lines_for show p.graph all m.module_read.name in
-    let over = all_over lines show p.graph all (all_said on_regions on_ins on_outs on_loops p i.tables shown) p.modules in
+    let over = all_over lines show p.graph all (all_said on_regions on_ins on_outs on_loops p (on_checks bytes p.modules (is_read bytes p e).read) i.tables shown) p.modules in
     let c = law bytes p.modules added (is_read bytes p e).read over in
     let b = back show bytes p e in
     let q = b.0 in

@@ -1,8 +1,8 @@
--- The lines of claims are no lines for compilers.
+-- The lines of claims and on references are no lines for compilers.
 use Rattle.std.proofs.Common.{◌≡◌, ℕ, Bool, true, false, not, List, [], ◌∷◌, ◌++◌, Option, Some, None, refl}
-use Rattle.std.specs.Prelude.{if◌then◌else◌}
+use Rattle.std.specs.Prelude.{codes, if◌then◌else◌}
 use Rattle.affine_systems.specs.declared.row.System.{System}
-use Rattle.f77_ast.specs.Trees.{StmtTree, WhatTree, ArmTree, ArmTrees, ElseTree, LoopTree, StmtTrees}
+use Rattle.f77_ast.specs.Trees.{ExprTree, StmtTree, WhatTree, ArmTree, ArmTrees, ElseTree, LoopTree, StmtTrees}
 use Rattle.f77_ast.specs.Trees as tree
 use Rattle.f77_ast.specs.Hidden.{is_hidden}
 use Rattle.f77_printer.specs.declared.added.Added.{Added}
@@ -22,6 +22,12 @@ use Rattle.pipsmake_base.specs.loop_marker.Phases.{analysis_in, known_in}
 use Rattle.laws_programs.specs.roundtrip_programs.Statements.Formed.{Each}
 use Rattle.laws_programs.proofs.RoundtripPrograms.ModuleTexts.Kept.{Each-append}
 use Rattle.laws_lines.specs.Marks.Directives.{is_sentinel}
+use Rattle.call_graph.specs.declared.graph.Graph.{Graph}
+use Rattle.pipsmake_base.specs.loop_marker.Results.{ModuleResults}
+use Rattle.laws_bounds.specs.bound_check.CheckLines.{word_line, check_lines_of}
+use Rattle.laws_bounds.specs.bound_check.Checked.{ChecksAt, checked_of}
+use Rattle.laws_bounds.specs.Said.{knowledge_by}
+use Rattle.pips_top.specs.Shown.{checks_of}
 use Rattle.pips_top.proofs.LinesFound.{scalar_lines_found, region_lines_found, claims_found}
 
 abbrev IsPlain : Added → Type 0
@@ -30,7 +36,7 @@ IsPlain a = is_sentinel a.line ≡ false
 abbrev pub ArePlain : List Added → Type 0
 ArePlain as' = Each IsPlain as'
 
-join : (xs ys : List Added) → ArePlain xs → ArePlain ys → ArePlain (xs ++ ys)
+pub join : (xs ys : List Added) → ArePlain xs → ArePlain ys → ArePlain (xs ++ ys)
 join xs ys h e = Each-append IsPlain xs ys h e
 
 if_plain : (b : Bool) (xs : List Added) → ArePlain xs → ArePlain (if b then xs else [])
@@ -178,3 +184,24 @@ claims_plain f =
     let outs = region_lines_found k f.outs in
     join scalars (regions ++ (ins ++ outs)) (scalars_plain (analysis_in f))
     (join regions (ins ++ outs) (regions_plain k f.known.known.regions) (join ins outs (regions_plain k f.known.ins) (regions_plain k f.outs)))
+
+-- ---- on references
+
+safe_plain : (n : ℕ) (es : List ExprTree) → ArePlain (word_line n (codes "C> SAFE ") es)
+safe_plain n [] = tt
+safe_plain n (e ∷ es) = record { first = refl; others = tt }
+
+check_plain : (n : ℕ) (es : List ExprTree) → ArePlain (word_line n (codes "C> CHECK ") es)
+check_plain n [] = tt
+check_plain n (e ∷ es) = record { first = refl; others = tt }
+
+found_checks_plain : (cs : List ChecksAt) → ArePlain (check_lines_of cs)
+found_checks_plain [] = tt
+found_checks_plain (c ∷ cs) =
+    let safe = word_line c.id (codes "C> SAFE ") c.checks.safe in
+    let others = word_line c.id (codes "C> CHECK ") c.checks.others in
+    join (safe ++ others) (check_lines_of cs) (join safe others (safe_plain c.id c.checks.safe) (check_plain c.id c.checks.others)) (found_checks_plain cs)
+
+pub checks_plain : (bounds : Bool) (g : Graph) (f : ModuleResults) → ArePlain (checks_of bounds g f)
+checks_plain false g f = tt
+checks_plain true g f = found_checks_plain (checked_of (knowledge_by g f.known f.transformers f.preconditions) f.known.read.body)

@@ -33,14 +33,14 @@ use Rattle.laws_programs.proofs.Sources.{IsBuilt, all_built}
 use Rattle.laws_programs.proofs.Tables.{programs_are_linked}
 use Rattle.laws_programs.proofs.Whole.{bodies_numbered}
 use Rattle.call_graph.specs.CallsIn.{Each as EachOne}
-use Rattle.laws_analyses.proofs.Statements.MainResults.{found_at}
-use Rattle.laws_analyses.proofs.Statements.NumberLaws.{ids, own_numbers}
-use Rattle.laws_analyses.specs.Coverage.{IsWhole, AreWhole}
-use Rattle.laws_analyses.specs.Laws.{AnalysesAreWhole}
-use Rattle.laws_analyses.specs.Regions.Claims.{set_in}
-use Rattle.laws_analyses.proofs.Regions.Numbering.{r_list}
-use Rattle.laws_marks.proofs.InStanding.{i_list}
-use Rattle.laws_marks.proofs.OutNumbers.{o_list}
+use Rattle.laws_bounds.proofs.LawsAnalyses.Statements.MainResults.{found_at}
+use Rattle.laws_bounds.proofs.LawsAnalyses.Statements.NumberLaws.{ids, own_numbers}
+use Rattle.laws_bounds.specs.laws_analyses.Coverage.{IsWhole, AreWhole}
+use Rattle.laws_bounds.specs.laws_analyses.Laws.{AnalysesAreWhole}
+use Rattle.laws_bounds.specs.laws_analyses.Regions.Claims.{set_in}
+use Rattle.laws_bounds.proofs.LawsAnalyses.Regions.Numbering.{r_list}
+use Rattle.laws_bounds.proofs.LawsMarks.InStanding.{i_list}
+use Rattle.laws_bounds.proofs.LawsMarks.OutNumbers.{o_list}
 use Rattle.pipsmake_base.specs.pipsmake_meaning.ResultEntries.{name_in}
 use Rattle.pipsmake_base.specs.laws_database.ResultCallees.{region_summaries, in_summaries}
 use Rattle.pipsmake_base.specs.laws_database.ResultCallers.{callers, later_sites}

@@ -23,10 +23,10 @@ use Rattle.pipsmake_base.specs.result_lines.declared.reduction.Part.{Part}
 use Rattle.pipsmake_base.specs.result_lines.declared.reduction.Reduction.{Reduction}
 use Rattle.reductions.specs.Reduced.{is_carried, reduction_in, at_number, found_at as reduced_at, reduced_of}
 use Rattle.laws_interleavings.specs.Accumulating.{Reduction as Clause}
-use Rattle.laws_marks.specs.Directives.{IsFound}
-use Rattle.laws_marks.specs.Names.{reduction_named}
-use Rattle.laws_marks.specs.Said.{knowledge, reductions_of, said_by, said_of, said_at}
-use Rattle.laws_marks.proofs.Marks.{found_at as found_by}
+use Rattle.laws_bounds.specs.laws_marks.Directives.{IsFound}
+use Rattle.laws_bounds.specs.laws_marks.Names.{reduction_named}
+use Rattle.laws_bounds.specs.laws_marks.Said.{knowledge, reductions_of, said_by, said_of, said_at}
+use Rattle.laws_bounds.proofs.LawsMarks.Marks.{found_at as found_by}
 use Rattle.laws_programs.specs.roundtrip_programs.Statements.Formed.{Each}
 use Rattle.laws_programs.specs.roundtrip_programs.ModuleTexts.Folded.{folded}
 use Rattle.laws_programs.specs.roundtrip_programs.ModuleTexts.Numbered.{last_in, IsWell}
@@ -37,7 +37,7 @@ use Rattle.laws_lines.specs.Marks.MarkedLoops.{directives_found}
 use Rattle.laws_lines.proofs.Marks.MarkNumbers.{Rise, loops_rise}
 use Rattle.laws_lines.proofs.Marks.ByNumber.{IsSaid, directive_is_found}
 use Rattle.laws_programs.proofs.Sources.{IsBuilt}
-use Rattle.laws_analyses.specs.Coverage.{AreWhole}
+use Rattle.laws_bounds.specs.laws_analyses.Coverage.{AreWhole}
 use Rattle.pips_top.specs.MarkedText.{clause_meant, directive_meant}
 use Rattle.pips_top.specs.Program.{ProgramTree}
 use Rattle.pips_top.specs.Shown.{results_of_program}

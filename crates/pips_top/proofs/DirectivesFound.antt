@@ -13,9 +13,9 @@ use Rattle.pipsmake_base.specs.loop_marker.Results.{ModuleResults}
 use Rattle.pipsmake_base.specs.result_lines.declared.reduction.Reduction.{Reduction}
 use Rattle.laws_programs.specs.roundtrip_programs.Texts.Texts.{module_of}
 use Rattle.laws_lines.specs.Marks.MarkedLoops.{clauses_at, directives_of, parallel_loops, directives_found}
-use Rattle.laws_analyses.specs.Coverage.{AreWhole}
+use Rattle.laws_bounds.specs.laws_analyses.Coverage.{AreWhole}
 use Rattle.laws_lines.specs.Marks.Directives.{Clauses}
-use Rattle.laws_marks.specs.Said.{reductions_of}
+use Rattle.laws_bounds.specs.laws_marks.Said.{reductions_of}
 use Rattle.pips_top.specs.MarkedText.{loops_of, loops_found}
 use Rattle.pips_top.specs.Program.{ProgramTree}
 use Rattle.pipsmake_base.specs.pipsmake_meaning.ResultEntries.{results_for}

@@ -11,27 +11,28 @@ use Rattle.f77_meaning.specs.Modules.{Known, known_of}
 use Rattle.f77_meaning.specs.Linked.{program_of}
 use Rattle.f77_meaning.specs.Occurrences.{Occurrence, Onward, Throughout, events_from}
 use Rattle.f77_meaning.specs.Claimed.{InEveryRun}
-use Rattle.laws_analyses.proofs.Statements.Ends.{both}
-use Rattle.laws_analyses.proofs.ThroughoutLaws.{throughout_more}
+use Rattle.laws_bounds.proofs.LawsAnalyses.Statements.Ends.{both}
+use Rattle.laws_bounds.proofs.LawsAnalyses.ThroughoutLaws.{throughout_more}
 use Rattle.pipsmake_base.specs.module_phases.ScalarPhases.{scope_of, Analysis, analyses}
 use Rattle.pipsmake_base.specs.module_phases.RegionPhases.{ModuleRegions, all_regions}
 use Rattle.pipsmake_base.specs.module_phases.InPhases.{ModuleIns, all_ins}
 use Rattle.pipsmake_base.specs.module_phases.OutPhases.{ModuleOuts, all_outs}
 use Rattle.pipsmake_base.specs.loop_marker.Results.{ModuleResults}
 use Rattle.pipsmake_base.specs.loop_marker.Phases.{phases_of, analysis_in}
-use Rattle.laws_analyses.specs.Claims.{AnalysisHolds, AnalysesHold}
-use Rattle.laws_analyses.specs.Laws.{ReadAnalysesHold}
-use Rattle.laws_analyses.specs.Regions.Accepted.{AllRegionsHold, ReadRegionsHold}
-use Rattle.laws_analyses.specs.Regions.Claims.{RegionsHold}
-use Rattle.laws_marks.specs.InAccepted.{AllInsHold, ReadInsHold}
-use Rattle.laws_marks.specs.InClaims.{InRegionsHold}
-use Rattle.laws_marks.specs.OutAccepted.{AllOutsHold as AllFoundOutsHold, ReadOutsHold}
-use Rattle.laws_marks.specs.OutClaims.{OutRegionsHold}
+use Rattle.laws_bounds.specs.laws_analyses.Claims.{AnalysisHolds, AnalysesHold}
+use Rattle.laws_bounds.specs.laws_analyses.Laws.{ReadAnalysesHold}
+use Rattle.laws_bounds.specs.laws_analyses.Regions.Accepted.{AllRegionsHold, ReadRegionsHold}
+use Rattle.laws_bounds.specs.laws_analyses.Regions.Claims.{RegionsHold}
+use Rattle.laws_bounds.specs.laws_marks.InAccepted.{AllInsHold, ReadInsHold}
+use Rattle.laws_bounds.specs.laws_marks.InClaims.{InRegionsHold}
+use Rattle.laws_bounds.specs.laws_marks.OutAccepted.{AllOutsHold as AllFoundOutsHold, ReadOutsHold}
+use Rattle.laws_bounds.specs.laws_marks.OutClaims.{OutRegionsHold}
 use Rattle.laws_lines.specs.Regions.Laws.{RegionsAreOver, RegionsAreOverPlaces}
 use Rattle.laws_lines.specs.Ins.Laws.{InsAreOver, InsAreOverPlaces}
 use Rattle.laws_lines.specs.Outs.Laws.{OutsAreOver, OutsAreOverPlaces}
 use Rattle.pips_top.specs.Claimed.{SaidHolds, AllSaidHolds, AllOutsHold, PlacesAreOver}
-use Rattle.pips_top.specs.Laws.{ReadClaimsHold}
+use Rattle.laws_bounds.specs.SafeLines.{SafeLinesHold, ReadSafeLinesHold}
+use Rattle.pips_top.specs.Laws.{ReadClaimsHold, ReadBoundsHold}
 use Rattle.pips_top.specs.Program.{ProgramTree}
 use Rattle.pips_top.specs.Shown.{results_of_program}
 use Rattle.pips_top.proofs.Entries.{each_result}
@@ -150,3 +151,9 @@ claims_from law on_regions on_ins on_outs over ins_over outs_over bytes p e =
       outs = λ turns input conforms. throughout_more (AllFoundOutsHold k p.graph (outs p)) (AllOutsHold k p.graph (results_of_program p)) (outs_follow p) (program_plan (program_of k p.graph) turns) (program_of k p.graph).initial input (λ f s i. []) (on_outs p.modules p.tables p.graph i turns input conforms);
       places = places_follow p (over p.modules p.tables p.graph i.tables) (ins_over p.modules p.tables p.graph i.tables) (outs_over p.modules p.tables p.graph i.tables);
     }
+
+-- what the lines SAFE say of references, of each module
+pub bounds_from : ReadSafeLinesHold → ReadBoundsHold
+bounds_from law bytes p e =
+    let i = is_program bytes p e in
+    λ j f h. of_scalars_at p (SafeLinesHold (known_of p.modules p.tables) p.graph) (λ k a q. law p.modules p.tables p.graph i k a q) j f h

@@ -9,11 +9,11 @@ use Rattle.f77_meaning.specs.Linked.{program_of}
 use Rattle.pipsmake_base.specs.loop_marker.Results.{ModuleResults}
 use Rattle.laws_interleavings.specs.Accumulating.{Directive}
 use Rattle.laws_programs.proofs.Sources.{all_built}
-use Rattle.laws_analyses.specs.Laws.{AnalysesAreWhole}
-use Rattle.laws_marks.specs.Schedules.{DoesAs}
-use Rattle.laws_marks.specs.Accepted.{ReadRunsAsPlain}
-use Rattle.laws_marks.specs.Directives.{IsFound, AreFound}
-use Rattle.laws_marks.specs.Said.{reductions_of}
+use Rattle.laws_bounds.specs.laws_analyses.Laws.{AnalysesAreWhole}
+use Rattle.laws_bounds.specs.laws_marks.Schedules.{DoesAs}
+use Rattle.laws_bounds.specs.laws_marks.Accepted.{ReadRunsAsPlain}
+use Rattle.laws_bounds.specs.laws_marks.Directives.{IsFound, AreFound}
+use Rattle.laws_bounds.specs.laws_marks.Said.{reductions_of}
 use Rattle.laws_lines.specs.Marks.Directives.{Clauses}
 use Rattle.laws_lines.specs.Marks.MarkedLoops.{directives_of, directives_found}
 use Rattle.pips_top.specs.Laws.{ReadRunsInterleaved}

@@ -1,4 +1,4 @@
--- The texts that are written of kept results, with the directives of loops with reduction variables.
+-- The texts that are written of kept results, with the directives of loops with reduction variables and the lines on references.
 use Rattle.std.proofs.Common.{◌≡◌, ℕ, Bool, true, false, List, [], ◌∷◌, ◌++◌, map, Option, Some, None, Ok, refl, sym, ap, ◌∙◌, subst}
 use Rattle.std.specs.Prelude.{option_map, option_and_then, option_to_list, if◌then◌else◌}
 use Rattle.f77_ast.specs.DeclTrees.{ModuleTree, ParsedTree}
@@ -26,7 +26,6 @@ use Rattle.pipsmake_base.specs.loop_marker.Results.{ModuleResults}
 use Rattle.pipsmake_base.specs.result_lines.Lines.{PrintedResults}
 use Rattle.pipsmake_base.specs.result_lines.ReductionLines.{reduced_lines_of}
 use Rattle.pipsmake_base.specs.result_lines.declared.reduction.Reduction.{Reduction}
-use Rattle.pipsmake_base.specs.result_lines.declared.show.Show.{Show}
 use Rattle.pipsmake_base.specs.pipsmake_meaning.Definitions.{module_named, results_in, printed_of, definition}
 use Rattle.pipsmake_base.specs.pipsmake_meaning.MemoCells.{kept_of}
 use Rattle.pipsmake_base.specs.pipsmake_meaning.ResultEntries.{results_of_modules, results_for}
@@ -45,10 +44,10 @@ use Rattle.pipsmake_base.specs.pipsmake_db.declared.db.Db.{Db}
 use Rattle.pipsmake_base.specs.Current.{FreshIsCurrent}
 use Rattle.pipsmake_base.specs.Saving.{stored_kinds}
 use Rattle.reductions.specs.Reduced.{reduction_in, is_carried, at_number, found_at, reduced_of}
-use Rattle.pips_top.specs.Kept.{no_effects, reductions_known, text_wanted, module_from, texts_wanted, module_kept, modules_kept, KeptTexts}
+use Rattle.pips_top.specs.Kept.{no_effects, reductions_known, lines_known, text_wanted, module_from, texts_wanted, module_kept, modules_kept, KeptTexts}
 use Rattle.pips_top.specs.Program.{ProgramTree}
-use Rattle.laws_marks.specs.Said.{reductions_of}
-use Rattle.pips_top.specs.Shown.{lines_wanted, lines_with, lines_found}
+use Rattle.laws_bounds.specs.laws_marks.Said.{reductions_of}
+use Rattle.pips_top.specs.Shown.{checks_of, lines_wanted, lines_with, lines_found}
 use Rattle.pips_top.specs.Written.{written}
 use Rattle.pips_top.specs.declared.wanted.Wanted.{Wanted}
 use Rattle.pips_top.proofs.FreshKeys.{AllThere, AllFresh}
@@ -58,10 +57,6 @@ use Rattle.pipsmake_base.proofs.LawsDatabase.Modules.{read_at, entry_of}
 use Rattle.pipsmake_base.proofs.PipsmakeDb.RestLaws.{AreThere, all_there, HasEach, has_each}
 use Rattle.pipsmake_base.proofs.PipsmakeDb.ShowLaws.{all_kept}
 use Rattle.fx_lists.proofs.Options.{some_is}
-
--- with reduction variables
-abbrev pub with_reductions : Show → Wanted
-with_reductions s = record { show = s; reductions = true }
 
 -- ---- effects play no part
 
@@ -90,10 +85,10 @@ reductions_kept false g f = refl
 reductions_kept true g f = reduced_apart (knowledge g f) no_effects g.order f.marks
 
 -- what is written of a module by its results
-lines_kept : (w : Wanted) (g : Graph) (f : ModuleResults) (k : Known) → f.known ≡ k → reduced_lines_of w.show k (printed_of f) (reductions_known w.reductions g k (printed_of f)) ≡ lines_wanted w g f
+lines_kept : (w : Wanted) (g : Graph) (f : ModuleResults) (k : Known) → f.known ≡ k → lines_known w g k (printed_of f) ≡ lines_wanted w g f
 lines_kept w g f k e =
-    ap (λ (j : Known). reduced_lines_of w.show j (printed_of f) (reductions_known w.reductions g j (printed_of f))) (sym e)
-    ∙ ap (reduced_lines_of w.show f.known (printed_of f)) (reductions_kept w.reductions g f)
+    ap (λ (j : Known). lines_known w g j (printed_of f)) (sym e)
+    ∙ ap (λ (rs : List (At Reduction)). reduced_lines_of w.show f.known (printed_of f) rs (checks_of w.bounds g f)) (reductions_kept w.reductions g f)
 
 -- ---- results that are kept as they are defined
 
@@ -124,17 +119,16 @@ module _ (tables_law : TablesIgnorePlaces) (graphs_law : GraphsIgnorePlaces) (d 
 
   -- ---- the text of a program
 
-  module _ (show : Show) (modules : AreModules (texts_of d)) (g : Graph) (links : links_in (texts_of d) ≡ Ok g) where
+  module _ (w : Wanted) (modules : AreModules (texts_of d)) (g : Graph) (links : links_in (texts_of d) ≡ Ok g) where
     abbrev found : List ModuleResults
     found = results_of_modules (known_in (texts_of d)) g
 
     abbrev added : ModuleTree → List Added
-    added = lines_found (with_reductions show) g found
+    added = lines_found w g found
 
     text_kept : (u : ModuleText) (m : ReadModule) → has_name (names_in (texts_of d)) u.name ≡ true → AllThere d.fresh u.name stored_kinds → module_named (texts_of d) u.name ≡ Some m → m.module_is.module_read.name ≡ u.name
-        → module_kept show d u.name ≡ Some (printer.module_text m.module_is.places m.module_is.module_read (added m.module_is.module_read))
+        → module_kept w d u.name ≡ Some (printer.module_text m.module_is.places m.module_is.module_read (added m.module_is.module_read))
     text_kept u m named fresh is_read is_named =
-        let w : Wanted = with_reductions show in
         let r = read_at (texts_of d) modules u.name named in
         let e = entry_of (texts_of d) g links u.name r in
         let same : r.read ≡ m = some_is r.read m (sym r.is_read ∙ is_read) in
@@ -142,7 +136,7 @@ module _ (tables_law : TablesIgnorePlaces) (graphs_law : GraphsIgnorePlaces) (d 
         let results : kept_results (memo_cells_in d) u.name ≡ Some (printed_of e.entry) = results_kept u.name fresh ∙ ap (option_map printed_of) e.result in
         let graph : graph_of (texts_of d) ≡ g = ap graph_or_none links in
         let of_name : results_for found m.module_is.module_read.name ≡ Some e.entry = ap (results_for found) is_named ∙ e.said in
-        let lines : reduced_lines_of w.show (known m) (printed_of e.entry) (reductions_known w.reductions g (known m) (printed_of e.entry)) ≡ added m.module_is.module_read =
+        let lines : lines_known w g (known m) (printed_of e.entry) ≡ added m.module_is.module_read =
         lines_kept w g e.entry (known m) own ∙ sym (ap (lines_with w g) of_name) in
         ap (λ (o : Option PrintedResults). option_and_then (λ n. option_map (text_wanted w (graph_of (texts_of d)) n) o) (module_named (texts_of d) u.name)) results
         ∙ ap (option_and_then (λ n. option_map (text_wanted w (graph_of (texts_of d)) n) (Some (printed_of e.entry)))) is_read
@@ -150,31 +144,30 @@ module _ (tables_law : TablesIgnorePlaces) (graphs_law : GraphsIgnorePlaces) (d 
         ∙ ap (λ (ls : List Added). Some (printer.module_text m.module_is.places m.module_is.module_read ls)) lines
 
     texts_kept : (us : List ModuleText) → HasEach (names_in (texts_of d)) (names_in us) → AreThere (texts_of d) us → AreModules us → AllFresh d.fresh (names_in us)
-        → modules_kept show d (names_in us) ≡ Some (modules_text (by_tree added) (trees_in us))
+        → modules_kept w d (names_in us) ≡ Some (modules_text (by_tree added) (trees_in us))
     texts_kept [] named there own fresh = refl
     texts_kept (u ∷ us) named there own fresh =
         let m : ReadModule = own.0.found in
         let first : List ℕ = printer.module_text m.module_is.places m.module_is.module_read (added m.module_is.module_read) in
         let is_read : module_named (texts_of d) u.name ≡ Some m = ap (option_and_then module_read) there.0 ∙ own.0.is_read in
-        ap (λ o. before_text o (modules_kept show d (names_in us))) (text_kept u m named.0 fresh.0 is_read own.0.is_named)
+        ap (λ o. before_text o (modules_kept w d (names_in us))) (text_kept u m named.0 fresh.0 is_read own.0.is_named)
         ∙ ap (before_text (Some first)) (texts_kept us named.1 there.1 own.1 fresh.1)
         ∙ sym (ap (λ o. Some (modules_text (by_tree added) (map (λ (n : ReadModule). n.module_is) (option_to_list o ++ modules_in us)))) own.0.is_read)
 
 -- what is written of the kept results of a database that has the modules of a program is what is written of the program
-module _ (tables_law : TablesIgnorePlaces) (graphs_law : GraphsIgnorePlaces) (show : Show) (bytes : List ℕ) (ms : List ParsedTree) (tables : List (List SymbolTree)) (g : Graph) (parts : IsSplit bytes ms tables g) where
+module _ (tables_law : TablesIgnorePlaces) (graphs_law : GraphsIgnorePlaces) (w : Wanted) (bytes : List ℕ) (ms : List ParsedTree) (tables : List (List SymbolTree)) (g : Graph) (parts : IsSplit bytes ms tables g) where
   abbrev program : ProgramTree
   program = record { modules = ms; tables = tables; graph = g }
 
-  pub all_written : (d : Db) (s : State) → IsIn d s → FreshIsCurrent s → texts_of d ≡ parts.texts → AllFresh d.fresh (names_in (texts_of d)) → (text : List ℕ) → KeptTexts show d text → text ≡ written (with_reductions show) program
+  pub all_written : (d : Db) (s : State) → IsIn d s → FreshIsCurrent s → texts_of d ≡ parts.texts → AllFresh d.fresh (names_in (texts_of d)) → (text : List ℕ) → KeptTexts w d text → text ≡ written w program
   all_written d s i current same fresh text kept =
       let ts : List ModuleText = texts_of d in
-      let w : Wanted = with_reductions show in
       let modules : AreModules ts = subst AreModules (sym same) parts.modules in
       let linked : links_in ts ≡ Ok g = ap links_in same ∙ parts.linked in
       let differ : NamesDiffer ts = subst NamesDiffer (sym same) parts.differ in
       let added : List Known → ModuleTree → List Added = λ ks. lines_found w g (results_of_modules ks g) in
-      let whole : modules_kept show d (names_in ts) ≡ Some (modules_text (by_tree (added (known_in ts))) (trees_in ts)) =
-      texts_kept tables_law graphs_law d s i current show modules g linked ts (has_each (names_in ts)) (all_there ts differ) modules fresh in
+      let whole : modules_kept w d (names_in ts) ≡ Some (modules_text (by_tree (added (known_in ts))) (trees_in ts)) =
+      texts_kept tables_law graphs_law d s i current w modules g linked ts (has_each (names_in ts)) (all_there ts differ) modules fresh in
       some_is text (modules_text (by_tree (added (known_in ts))) (trees_in ts)) (sym kept ∙ whole)
       ∙ ap (λ us. modules_text (by_tree (added (known_in us))) (trees_in us)) same
       ∙ ap (λ ks. modules_text (by_tree (added ks)) (trees_in parts.texts)) parts.known
@@ -182,14 +175,14 @@ module _ (tables_law : TablesIgnorePlaces) (graphs_law : GraphsIgnorePlaces) (sh
 
 -- ---- stored results, whatever they are
 
-module _ (show : Show) (d : Db) (stored : Valuation) (rests : Rests d stored) where
-  module_stored : (x : List ℕ) → has_name (names_in (texts_of d)) x ≡ true → module_kept show d x ≡ module_from (texts_of d) stored (with_reductions show) x
+module _ (w : Wanted) (d : Db) (stored : Valuation) (rests : Rests d stored) where
+  module_stored : (x : List ℕ) → has_name (names_in (texts_of d)) x ≡ true → module_kept w d x ≡ module_from (texts_of d) stored w x
   module_stored x named =
-      λ i. option_and_then (λ m. option_map (text_wanted (with_reductions show) (graph_of (texts_of d)) m) (all_kept (memo_cells_in d) (texts_of d) stored rests.kept x named i)) (module_named (texts_of d) x)
+      λ i. option_and_then (λ m. option_map (text_wanted w (graph_of (texts_of d)) m) (all_kept (memo_cells_in d) (texts_of d) stored rests.kept x named i)) (module_named (texts_of d) x)
 
-  modules_stored : (xs : List (List ℕ)) → HasEach (names_in (texts_of d)) xs → modules_kept show d xs ≡ texts_wanted (texts_of d) stored (with_reductions show) xs
+  modules_stored : (xs : List (List ℕ)) → HasEach (names_in (texts_of d)) xs → modules_kept w d xs ≡ texts_wanted (texts_of d) stored w xs
   modules_stored [] h = refl
   modules_stored (x ∷ xs) h = λ i. before_text (module_stored x h.0 i) (modules_stored xs h.1 i)
 
-  pub texts_stored : (text : List ℕ) → KeptTexts show d text → texts_wanted (texts_of d) stored (with_reductions show) (names_in (texts_of d)) ≡ Some text
+  pub texts_stored : (text : List ℕ) → KeptTexts w d text → texts_wanted (texts_of d) stored w (names_in (texts_of d)) ≡ Some text
   texts_stored text kept = sym (modules_stored (names_in (texts_of d)) (has_each (names_in (texts_of d)))) ∙ kept

@@ -36,6 +36,7 @@ mod ExampleReading
 mod FunctionReading
 mod FunctionResults
 mod SumResults
+mod BoundsResults
 mod Runs
 mod Claiming
 mod Schedules

@@ -11,7 +11,7 @@ use Rattle.pipsmake_base.specs.loop_marker.Results.{ModuleResults}
 use Rattle.pipsmake_base.specs.loop_marker.Phases.{analysis_in, known_in}
 use Rattle.pipsmake_base.specs.result_lines.Lines.{scalar_lines_of, region_lines_of}
 use Rattle.pipsmake_base.specs.result_lines.ReductionLines.{loop_lines_of}
-use Rattle.laws_marks.specs.Said.{reductions_of}
+use Rattle.laws_bounds.specs.laws_marks.Said.{reductions_of}
 
 abbrev pub scalar_lines_found : Analysis → List Added
 scalar_lines_found a = scalar_lines_of a.found.known a.found.own a.holds

@@ -9,7 +9,7 @@ use Rattle.pipsmake_base.specs.loop_marker.Results.{ModuleResults}
 use Rattle.pipsmake_base.specs.loop_marker.Phases.{phases_of, analysis_in, all_marks}
 use Rattle.pipsmake_base.specs.privatizer.Functions.{module_functions}
 use Rattle.pipsmake_base.specs.result_lines.ShownMarks.{marks_without, shown_marks}
-use Rattle.laws_analyses.specs.Laws.{AnalysesAreWhole}
+use Rattle.laws_bounds.specs.laws_analyses.Laws.{AnalysesAreWhole}
 use Rattle.laws_programs.specs.Layout.Laws.{BlocksHaveAChain}
 use Rattle.laws_programs.proofs.Sources.{all_built}
 use Rattle.laws_lines.specs.LineLaws.{LinesMeanResults, AnalysesAreReadBack}
@@ -22,7 +22,7 @@ use Rattle.laws_lines.proofs.Regions.ProgramRegions.{ModuleFine, ModuleTold, reg
 use Rattle.laws_lines.specs.RegionTexts.Printed.{IsPlain}
 use Rattle.laws_lines.specs.Marks.Laws.{DirectivesReadBack, ReductionsReadBack, ObstaclesAreNoDirectives}
 use Rattle.call_graph.specs.declared.graph.Graph.{Graph}
-use Rattle.laws_marks.specs.Said.{reductions_of}
+use Rattle.laws_bounds.specs.laws_marks.Said.{reductions_of}
 use Rattle.pips_top.specs.Claimed.{AreRead}
 use Rattle.pips_top.specs.Shown.{lines_wanted, lines_with}
 use Rattle.pips_top.specs.Laws.{ReadLinesMean}

@@ -44,7 +44,7 @@ use Rattle.pipsmake_base.specs.result_lines.declared.reduction.ReduceOp.{ReduceO
 use Rattle.pipsmake_base.specs.result_lines.declared.reduction.Part.{Part as ReducedPart}
 use Rattle.pipsmake_base.specs.result_lines.declared.reduction.Reduction.{Reduction}
 use Rattle.reductions.specs.Reduced.{operator_of, part_with, part_of, reduction_with, by_part, by_verdict as by_verdict_of_part, reduction_from, is_carried, reduction_in, at_number, found_at, reduced_of}
-use Rattle.laws_marks.specs.Said.{reduced_in, reductions_of}
+use Rattle.laws_bounds.specs.laws_marks.Said.{reduced_in, reductions_of}
 use Rattle.laws_lines.specs.Laws.{IsTracked}
 use Rattle.laws_lines.proofs.StatementVars.{AllAt, all_at-append}
 use Rattle.laws_lines.proofs.PhaseVars.{value_is}

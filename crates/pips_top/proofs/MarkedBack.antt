@@ -14,11 +14,12 @@ use Rattle.laws_programs.specs.roundtrip_programs.Programs.{NamesAreShown}
 use Rattle.laws_lines.specs.Marks.Marked.{with_functions, ReadMarked}
 use Rattle.laws_lines.specs.Marks.MarkedLoops.{parallel_in}
 use Rattle.laws_lines.specs.Marks.Laws.{LoopLinesArePassedOver}
+use Rattle.laws_bounds.specs.LinesPass.{CheckLinesPass}
 use Rattle.laws_lines.specs.Marks.WholeLaws.{with_marks, MarksReadBack}
 use Rattle.laws_lines.proofs.Marks.Unique.{one_reading}
 use Rattle.laws_programs.specs.Layout.Laws.{BlocksHaveAChain}
 use Rattle.laws_programs.proofs.Sources.{all_built}
-use Rattle.laws_analyses.specs.Laws.{AnalysesAreWhole}
+use Rattle.laws_bounds.specs.laws_analyses.Laws.{AnalysesAreWhole}
 use Rattle.laws_lines.specs.NameLaws.{NamesAreWords}
 use Rattle.laws_lines.specs.Regions.LineLaws.{AllRegionLinesPass}
 use Rattle.laws_lines.proofs.Regions.LinesMean.{tables_named}
@@ -50,7 +51,7 @@ module _ (show : Wanted) (p : ProgramTree) where
   added m = lines_for show p.graph (results_of_program p) m.module_read.name
 
   abbrev parts : ParsedTree → List Added
-  parts = with_marks (λ m. names_of (found m)) (shows_why show.show) (λ m. said_of show p.graph (found m)) (λ m. others_of show.show (found m))
+  parts = with_marks (λ m. names_of (found m)) (shows_why show.show) (λ m. said_of show p.graph (found m)) (λ m. others_of show p.graph (found m))
 
   added_same : added ≡ parts
   added_same = fun_ext (λ m. lines_parts show p.graph (found m))
@@ -65,15 +66,15 @@ module _ (show : Wanted) (p : ProgramTree) where
   abbrev loops_read : ParsedTree → List (At Clauses)
   loops_read m = with_functions m.module_read (parallel_in (names_of (found m)) (said_of show p.graph (found m)))
 
-pub marked_from : MarksReadBack → AnalysesAreWhole → NamesAreWords → LinesArePassedOver → AllRegionLinesPass → AllInLinesPass → AllOutLinesPass → LoopLinesArePassedOver → NamesAreShown → BlocksHaveAChain → ReadWrittenBack → ReadMarkedBack
-marked_from law whole words lines on_regions on_ins on_outs on_loops names blocks back show bytes p e =
+pub marked_from : MarksReadBack → AnalysesAreWhole → NamesAreWords → LinesArePassedOver → AllRegionLinesPass → AllInLinesPass → AllOutLinesPass → LoopLinesArePassedOver → CheckLinesPass → NamesAreShown → BlocksHaveAChain → ReadWrittenBack → ReadMarkedBack
+marked_from law whole words lines on_regions on_ins on_outs on_loops on_checks names blocks back show bytes p e =
     let i = is_program bytes p e in
     let built = all_built i.lines p.modules i.parsed in
     let all = whole p.modules p.tables p.graph i in
-    let said = all_said on_regions on_ins on_outs on_loops p i.tables (modules_shown names blocks p.modules p.tables built i.tables) in
+    let said = all_said on_regions on_ins on_outs on_loops p (on_checks bytes p.modules (is_read bytes p e).read) i.tables (modules_shown names blocks p.modules p.tables built i.tables) in
     let are = tables_named p.modules p.tables i.tables (words i.lines p.modules p.tables i.parsed i.tables) in
     let m =
-    law bytes p.modules (λ m. names_of (found show p m)) (shows_why show.show) (λ m. said_of show p.graph (found show p m)) (λ m. others_of show.show (found show p m)) (is_read bytes p e).read
+    law bytes p.modules (λ m. names_of (found show p m)) (shows_why show.show) (λ m. said_of show p.graph (found show p m)) (λ m. others_of show p.graph (found show p m)) (is_read bytes p e).read
     (parts_over show p (all_over lines show p.graph (results_of_program p) said p.modules)) (all_marked p show all i.tables built are said) in
     let b = back show bytes p e in
     let q = b.0 in

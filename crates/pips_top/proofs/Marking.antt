@@ -1,5 +1,5 @@
 -- What is said of the loops of the modules of a program that was read is as the law of whole texts asks.
-use Rattle.std.proofs.Common.{◌≡◌, ℕ, zero, suc, Bool, true, false, List, [], ◌∷◌, ◌++◌, map, Option, Some, None, refl, sym, ap, ◌∙◌, subst}
+use Rattle.std.proofs.Common.{◌≡◌, ℕ, zero, suc, Bool, true, false, List, [], ◌∷◌, ◌++◌, map, Option, Some, None, refl, sym, ap, ◌∙◌, subst, append_assoc}
 use Rattle.std.specs.Prelude.{slice_get}
 use Rattle.f77_ast.specs.DeclTrees.{ModuleTree, ParsedTree}
 use Rattle.f77_printer.specs.declared.added.Added.{Added}
@@ -37,19 +37,19 @@ use Rattle.laws_lines.specs.Marks.WholeLaws.{IsMarking, IsMarked}
 use Rattle.laws_lines.proofs.Marks.MarkNumbers.{marks_numbers}
 use Rattle.laws_programs.proofs.Sources.{IsBuilt}
 use Rattle.laws_programs.specs.Programs.{AreTables}
-use Rattle.laws_analyses.specs.Coverage.{AreWhole}
+use Rattle.laws_bounds.specs.laws_analyses.Coverage.{AreWhole}
 use Rattle.pips_top.specs.Program.{ProgramTree}
 use Rattle.pipsmake_base.specs.pipsmake_meaning.ResultEntries.{results_for}
-use Rattle.laws_marks.specs.Said.{reductions_of}
+use Rattle.laws_bounds.specs.laws_marks.Said.{reductions_of}
 use Rattle.pips_top.specs.MarkedText.{loops_of}
-use Rattle.pips_top.specs.Shown.{results_of_program, lines_with}
+use Rattle.pips_top.specs.Shown.{results_of_program, checks_of, lines_with}
 use Rattle.pips_top.specs.declared.wanted.Wanted.{Wanted}
 use Rattle.pipsmake_base.specs.result_lines.declared.show.Show.{Show}
 use Rattle.pipsmake_base.specs.result_lines.declared.show.Show.TheVariants.{All, Bare, Why}
 use Rattle.pips_top.proofs.LinesFound.{claims_found}
 use Rattle.pips_top.proofs.MarkNames.{MarkNamed, MarksNamed, ReductionNamed, ReductionsNamed, numbers_named, asked_named}
 use Rattle.laws_lines.proofs.PhaseVars.{value_is}
-use Rattle.pips_top.proofs.ClaimsPlain.{ArePlain, claims_plain}
+use Rattle.pips_top.proofs.ClaimsPlain.{ArePlain, join, claims_plain, checks_plain}
 use Rattle.pips_top.proofs.Said.{marks_are}
 use Rattle.pips_top.proofs.ModulesSaid.{IsOwn, each_own, known_there}
 use Rattle.pips_top.proofs.AddedLines.{IsSaid}
@@ -72,34 +72,35 @@ shows_why All = true
 shows_why Bare = false
 shows_why Why = true
 
-abbrev pub others_of : Show → Option ModuleResults → List Added
-others_of show None = []
-others_of All (Some f) = claims_found (phases_of f)
-others_of Bare (Some f) = []
-others_of Why (Some f) = []
+abbrev claims_by : Show → ModuleResults → List Added
+claims_by All f = claims_found (phases_of f)
+claims_by Bare f = []
+claims_by Why f = []
 
-parts_by : (show : Show) (f : ModuleResults) (rs : List (At Reduction))
-    → reduced_lines_of show f.known (printed_of f) rs ≡ others_of show (Some f) ++ said_lines (symbol_names f.known.symbols) (shows_why show) (loops_said f.known rs f.marks)
-parts_by All f rs = ap (λ (lines : List Added). claims_found (phases_of f) ++ lines) (loop_lines_said f.known true rs f.marks)
-parts_by Bare f rs = loop_lines_said f.known false rs f.marks
-parts_by Why f rs = loop_lines_said f.known true rs f.marks
+abbrev pub others_of : Wanted → Graph → Option ModuleResults → List Added
+others_of show g None = []
+others_of show g (Some f) = claims_by show.show f ++ checks_of show.bounds g f
 
-none_by : (show : Show) → [] ≡ others_of show None ++ []
-none_by All = refl
-none_by Bare = refl
-none_by Why = refl
+parts_by : (show : Show) (f : ModuleResults) (rs : List (At Reduction)) (cs : List Added)
+    → reduced_lines_of show f.known (printed_of f) rs cs ≡ (claims_by show f ++ cs) ++ said_lines (symbol_names f.known.symbols) (shows_why show) (loops_said f.known rs f.marks)
+parts_by All f rs cs =
+    ap (λ (lines : List Added). claims_found (phases_of f) ++ (cs ++ lines)) (loop_lines_said f.known true rs f.marks)
+    ∙ sym (append_assoc (claims_found (phases_of f)) cs (said_lines (symbol_names f.known.symbols) true (loops_said f.known rs f.marks)))
+parts_by Bare f rs cs = ap (λ (lines : List Added). cs ++ lines) (loop_lines_said f.known false rs f.marks)
+parts_by Why f rs cs = ap (λ (lines : List Added). cs ++ lines) (loop_lines_said f.known true rs f.marks)
 
-pub lines_parts : (show : Wanted) (g : Graph) (o : Option ModuleResults) → lines_with show g o ≡ others_of show.show o ++ said_lines (names_of o) (shows_why show.show) (said_of show g o)
-lines_parts show g None = none_by show.show
-lines_parts show g (Some f) = parts_by show.show f (reductions_of show.reductions g f)
+pub lines_parts : (show : Wanted) (g : Graph) (o : Option ModuleResults) → lines_with show g o ≡ others_of show g o ++ said_lines (names_of o) (shows_why show.show) (said_of show g o)
+lines_parts show g None = refl
+lines_parts show g (Some f) = parts_by show.show f (reductions_of show.reductions g f) (checks_of show.bounds g f)
 
-others_plain : (show : Show) (o : Option ModuleResults) → ArePlain (others_of show o)
-others_plain All None = tt
-others_plain Bare None = tt
-others_plain Why None = tt
-others_plain All (Some f) = claims_plain (phases_of f)
-others_plain Bare (Some f) = tt
-others_plain Why (Some f) = tt
+by_show_plain : (show : Show) (f : ModuleResults) → ArePlain (claims_by show f)
+by_show_plain All f = claims_plain (phases_of f)
+by_show_plain Bare f = tt
+by_show_plain Why f = tt
+
+others_plain : (show : Wanted) (g : Graph) (o : Option ModuleResults) → ArePlain (others_of show g o)
+others_plain show g None = tt
+others_plain show g (Some f) = join (claims_by show.show f) (checks_of show.bounds g f) (by_show_plain show.show f) (checks_plain show.bounds g f)
 
 -- ---- the marks of a module
 
@@ -177,13 +178,13 @@ module _ (p : ProgramTree) (show : Wanted) (whole : AreWhole (known_of p.modules
   loops m = said_of show p.graph (results_for (results_of_program p) m.module_read.name)
 
   abbrev pub others : ParsedTree → List Added
-  others m = others_of show.show (results_for (results_of_program p) m.module_read.name)
+  others m = others_of show p.graph (results_for (results_of_program p) m.module_read.name)
 
   marked_at : (i : ℕ) (m : ParsedTree) → slice_get p.modules i ≡ Some m → IsMarked names loops others m
   marked_at i m e =
       let t = known_there p.modules p.tables i m tables e in
       let g = good_at i m t.0 e t.1 (each_own p whole i (record { read = m.module_read; symbols = t.0 }) t.1) in
-      record { named = g.named; shown = g.shown; marking = g.marking; plain = others_plain show.show (results_for (results_of_program p) m.module_read.name) }
+      record { named = g.named; shown = g.shown; marking = g.marking; plain = others_plain show p.graph (results_for (results_of_program p) m.module_read.name) }
 
   -- with the functions of which its loops take values they are the parallel loops that were found
   pub loops_at : (i : ℕ) (m : ParsedTree) → slice_get p.modules i ≡ Some m → with_functions m.module_read (parallel_in (names m) (loops m)) ≡ loops_of show p.graph (results_for (results_of_program p) m.module_read.name)

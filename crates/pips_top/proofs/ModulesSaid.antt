@@ -19,7 +19,7 @@ use Rattle.pipsmake_base.specs.loop_marker.Results.{ModuleResults}
 use Rattle.pipsmake_base.specs.loop_marker.Phases.{phases_of, analysis_in, all_marks}
 use Rattle.pipsmake_base.specs.loop_marker.Phases as marks
 use Rattle.laws_programs.specs.Programs.{AreTables}
-use Rattle.laws_analyses.specs.Coverage.{AreWhole}
+use Rattle.laws_bounds.specs.laws_analyses.Coverage.{AreWhole}
 use Rattle.pips_top.specs.Program.{ProgramTree}
 use Rattle.pipsmake_base.specs.pipsmake_meaning.ResultEntries.{results_for}
 use Rattle.pips_top.specs.Shown.{results_of_program}

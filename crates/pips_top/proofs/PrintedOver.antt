@@ -1,5 +1,5 @@
 -- A program that takes the place of the texts of a database is printed as it is written alone.
-use Rattle.std.proofs.Common.{◌≡◌, ℕ, true, false, List, Option, Some, None, Result, Ok, Err, refl, sym, ap, ◌∙◌, subst}
+use Rattle.std.proofs.Common.{◌≡◌, ℕ, true, List, Option, Some, None, Result, Ok, Err, refl, sym, ap, ◌∙◌, subst}
 use Rattle.f77_parser.specs.Gives.{Refused}
 use Rattle.call_graph.specs.declared.graph.Graph.{Graph}
 use Rattle.call_graph.specs.declared.refusal.Fault.{Fault}
@@ -24,12 +24,12 @@ use Rattle.pips_top.specs.Based.{all_keys}
 use Rattle.pips_top.specs.Kept.{texts_wanted, KeptTexts}
 use Rattle.pips_top.specs.Program.{ProgramTree}
 use Rattle.pips_top.specs.Replies.{PrintsOver}
-use Rattle.pips_top.specs.Shown.{alone}
+use Rattle.pips_top.specs.Shown.{alone, is_alone}
 use Rattle.pips_top.specs.Written.{written}
 use Rattle.pips_top.specs.declared.wanted.Wanted.{Wanted}
-use Rattle.pips_top.proofs.Alone.{written_alone, texts_alone}
+use Rattle.pips_top.proofs.Alone.{alone_is, written_alone, texts_alone}
 use Rattle.pips_top.proofs.FreshKeys.{AllFresh, printed_fresh, same_texts, all_stored}
-use Rattle.pips_top.proofs.KeptTexts.{with_reductions, all_written, texts_stored}
+use Rattle.pips_top.proofs.KeptTexts.{all_written, texts_stored}
 use Rattle.pips_top.proofs.ReadBack.{reading_is}
 use Rattle.pipsmake_base.proofs.PipsmakeDb.CommandLemmas.{stays_in, stays_resting}
 
@@ -112,28 +112,26 @@ module _ (split : AcceptedIsSplit) (accepted : LinkedIsAccepted) (current : Prin
     from = λ s is. (let p = ended s is in record { next = p.next; is_in = p.is_in; current = up_to_date s is; is = of_state p.next p.is_in (up_to_date s is) p.text });
   }
 
-  -- without reduction variables
+  -- without reduction variables and subscript checks
   printed_alone : OverIt (alone show) prints.text
   printed_alone =
       printed (alone show) prints.text
       (λ stored p. ap (λ ts. texts_wanted ts stored (alone show) (names_in ts)) (sym texts_are) ∙ texts_alone (texts_of e) stored show (names_in (texts_of e)) ∙ p.text)
       (λ s is current e. same_text (texts_named show sources (names_in sources)) prints.text (written (alone show) program) e shown)
 
-  -- with them, from what is kept
-  printed_reduced : (text : List ℕ) → KeptTexts show e text → OverIt (with_reductions show) text
-  printed_reduced text kept =
-      printed (with_reductions show) text
-      (λ stored p. ap (λ ts. texts_wanted ts stored (with_reductions show) (names_in ts)) (sym texts_are) ∙ texts_stored show e stored p.rests text kept)
-      (λ s is now made. all_written tables_law graphs_law show bytes some.modules some.tables linked.graph parts e s is now (texts_are ∙ read_as) is_fresh text kept)
+  -- with them or subscript checks, from what is kept
+  printed_reduced : (w : Wanted) (text : List ℕ) → KeptTexts w e text → OverIt w text
+  printed_reduced w text kept =
+      printed w text
+      (λ stored p. ap (λ ts. texts_wanted ts stored w (names_in ts)) (sym texts_are) ∙ texts_stored w e stored p.rests text kept)
+      (λ s is now made. all_written tables_law graphs_law w bytes some.modules some.tables linked.graph parts e s is now (texts_are ∙ read_as) is_fresh text kept)
 
 module _ (split : AcceptedIsSplit) (accepted : LinkedIsAccepted) (current : PrintingStaysCurrent) (tables_law : TablesIgnorePlaces) (graphs_law : GraphsIgnorePlaces) (w : Wanted) (bytes : List ℕ) (d mid between e : Db) (names : List (List ℕ)) (prints : Prints)
     (replaced : ReplacesAll d mid bytes names) (none : link_refusal (texts_of mid) ≡ None) (stay : Stays mid between) (all : PrintsAll w.show between e prints) where
-  pub printed_over : w.reductions ≡ false → PrintsOver w bytes prints.text d e
+  pub printed_over : is_alone w ≡ true → PrintsOver w bytes prints.text d e
   printed_over h =
-      subst (λ b. PrintsOver (record { show = w.show; reductions = b }) bytes prints.text d e) (sym h)
+      subst (λ v. PrintsOver v bytes prints.text d e) (sym (alone_is w h))
       (printed_alone split accepted current tables_law graphs_law w.show bytes d mid between e names prints replaced none stay all)
 
-  pub reduced_over : w.reductions ≡ true → (text : List ℕ) → KeptTexts w.show e text → PrintsOver w bytes text d e
-  reduced_over h text kept =
-      subst (λ b. PrintsOver (record { show = w.show; reductions = b }) bytes text d e) (sym h)
-      (printed_reduced split accepted current tables_law graphs_law w.show bytes d mid between e names prints replaced none stay all text kept)
+  pub reduced_over : (text : List ℕ) → KeptTexts w e text → PrintsOver w bytes text d e
+  reduced_over text kept = printed_reduced split accepted current tables_law graphs_law w.show bytes d mid between e names prints replaced none stay all w text kept

@@ -20,6 +20,7 @@ use Rattle.laws_lines.specs.Regions.LineLaws.{AllRegionLinesPass}
 use Rattle.laws_lines.specs.Ins.Laws.{AllInLinesPass}
 use Rattle.laws_lines.specs.Outs.Laws.{AllOutLinesPass}
 use Rattle.laws_lines.specs.Marks.Laws.{LoopLinesArePassedOver}
+use Rattle.laws_bounds.specs.LinesPass.{CheckLinesPass}
 use Rattle.laws_lines.specs.Marks.WholeLaws.{TextsAreWrittenAgain}
 use Rattle.laws_programs.specs.Layout.Laws.{BlocksHaveAChain}
 use Rattle.laws_programs.specs.roundtrip_programs.Texts.Texts as back
@@ -117,13 +118,13 @@ written_twice law show bytes p q e f same over =
     ∙ law bytes p.modules q.modules added (is_read bytes p e).read over (λ m n k. ap (λ (t : ModuleTree). lines_for show p.graph all t.name) k) again
     ∙ sym text
 
-pub back_from : ProgramsReadBack → TextsAreWrittenAgain → LinesArePassedOver → AllRegionLinesPass → AllInLinesPass → AllOutLinesPass → LoopLinesArePassedOver → NamesAreShown → BlocksHaveAChain → ReadWrittenBack
-back_from programs texts lines on_regions on_ins on_outs on_loops names blocks show bytes p e =
+pub back_from : ProgramsReadBack → TextsAreWrittenAgain → LinesArePassedOver → AllRegionLinesPass → AllInLinesPass → AllOutLinesPass → LoopLinesArePassedOver → CheckLinesPass → NamesAreShown → BlocksHaveAChain → ReadWrittenBack
+back_from programs texts lines on_regions on_ins on_outs on_loops on_checks names blocks show bytes p e =
     let is = is_read bytes p e in
     let i = is_program bytes p e in
     let shown = modules_shown names blocks p.modules p.tables (all_built i.lines p.modules i.parsed) i.tables in
     let all = results_of_program p in
-    let over = all_over lines show p.graph all (all_said on_regions on_ins on_outs on_loops p i.tables shown) p.modules in
+    let over = all_over lines show p.graph all (all_said on_regions on_ins on_outs on_loops p (on_checks bytes p.modules is.read) i.tables shown) p.modules in
     let b = programs bytes p.modules p.tables p.graph (λ m. lines_for show p.graph all m.module_read.name) is over in
     let q : ProgramTree = record { modules = b.again; tables = p.tables; graph = p.graph } in
     let read = ap reading (text_same show p.graph all p.modules) ∙ reading_is (back.modules_text (λ m. lines_for show p.graph all m.module_read.name) p.modules) b.again p.tables p.graph b.program in

@@ -1,5 +1,5 @@
 -- What is written of a program that was read, and what a session prints, is sound.
-use Rattle.std.proofs.Common.{◌≡◌, ℕ, List, ◌++◌, Option, Some, None, Ok, ap, sym, ◌∙◌, subst}
+use Rattle.std.proofs.Common.{◌≡◌, ℕ, Bool, true, false, List, ◌++◌, Option, Some, None, Ok, ap, sym, ◌∙◌, subst}
 use Rattle.pipsmake_base.specs.session_texts.declared.command.Command.{Command}
 use Rattle.pipsmake_base.specs.session_texts.Answers.{made_lines, text_with_count}
 use Rattle.laws_programs.specs.roundtrip_programs.Pieces.Joined.{joined_texts}
@@ -12,7 +12,8 @@ use Rattle.pipsmake_base.specs.pipsmake_db.AnswerLaws.{EachPrintIsTheProgram}
 use Rattle.pipsmake_base.specs.pipsmake_db.Refusals.{link_refusal}
 use Rattle.pipsmake_base.specs.pipsmake_db.Scripts.{AnswersAll}
 use Rattle.pipsmake_base.specs.pipsmake_db.State.{State}
-use Rattle.pips_top.specs.Laws.{ReadClaimsHold, ReadAllSaid, ReadLinesMean, ReadWrittenBack, ReadClaimsBack, ReadMarkedBack, ReadRunsInterleaved, ReadSoundly, AnsweredSoundly}
+use Rattle.pips_top.specs.Bounded.{BoundsHold, BoundsWanted}
+use Rattle.pips_top.specs.Laws.{ReadClaimsHold, ReadBoundsHold, ReadAllSaid, ReadLinesMean, ReadWrittenBack, ReadClaimsBack, ReadMarkedBack, ReadRunsInterleaved, ReadSoundly, AnsweredSoundly}
 use Rattle.pips_top.specs.Program.{ProgramTree}
 use Rattle.pips_top.specs.Reading.{reading}
 use Rattle.pips_top.specs.Shown.{alone}
@@ -20,9 +21,14 @@ use Rattle.pips_top.specs.Sound.{PrintBy}
 use Rattle.pips_top.proofs.Alone.{written_alone}
 use Rattle.pips_top.proofs.ReadBack.{reading_is}
 
-pub soundly_from : ReadClaimsHold → ReadAllSaid → ReadLinesMean → ReadWrittenBack → ReadClaimsBack → ReadMarkedBack → ReadRunsInterleaved → ReadSoundly
-soundly_from holds all lines back claimed marked interleaved show bytes p e = record {
+wanted_by : (bounds : Bool) (p : ProgramTree) → BoundsHold p → BoundsWanted bounds p
+wanted_by false p h = tt
+wanted_by true p h = h
+
+pub soundly_from : ReadClaimsHold → ReadBoundsHold → ReadAllSaid → ReadLinesMean → ReadWrittenBack → ReadClaimsBack → ReadMarkedBack → ReadRunsInterleaved → ReadSoundly
+soundly_from holds on_bounds all lines back claimed marked interleaved show bytes p e = record {
   claims = holds bytes p e;
+  bounds = wanted_by show.bounds p (on_bounds bytes p e);
   whole = all bytes p e;
   lines = lines show bytes p e;
   back = back show bytes p e;

@@ -10,12 +10,12 @@ use Rattle.pipsmake_base.specs.loop_marker.Results.{ModuleResults}
 use Rattle.pipsmake_base.specs.result_lines.Lines.{scalar_lines_of, region_lines_of}
 use Rattle.pipsmake_base.specs.privatizer.Functions.{module_functions}
 use Rattle.pipsmake_base.specs.result_lines.ShownMarks.{shown_marks}
-use Rattle.laws_analyses.specs.Claims.{AnalysisHolds}
+use Rattle.laws_bounds.specs.laws_analyses.Claims.{AnalysisHolds}
 use Rattle.laws_lines.specs.Lines.{EachMeans}
-use Rattle.laws_analyses.specs.Regions.Claims.{RegionsHold}
-use Rattle.laws_marks.specs.InClaims.{InRegionsHold}
-use Rattle.laws_marks.specs.OutClaims.{OutRegionsHold}
-use Rattle.laws_marks.specs.Said.{reductions_of}
+use Rattle.laws_bounds.specs.laws_analyses.Regions.Claims.{RegionsHold}
+use Rattle.laws_bounds.specs.laws_marks.InClaims.{InRegionsHold}
+use Rattle.laws_bounds.specs.laws_marks.OutClaims.{OutRegionsHold}
+use Rattle.laws_bounds.specs.laws_marks.Said.{reductions_of}
 use Rattle.laws_lines.specs.Regions.Laws.{SetsAreOver}
 use Rattle.laws_lines.specs.Regions.Lines.{AreRegionLines}
 use Rattle.pips_top.specs.Covered.{AreCovered}

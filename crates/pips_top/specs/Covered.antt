@@ -3,8 +3,8 @@ use Rattle.std.specs.Prelude.{◌≡◌, ℕ, List, Option, Some, IsSome, slice_
 use Rattle.f77_ast.specs.StatementNumbers.{list_numbers}
 use Rattle.f77_meaning.specs.Modules.{Known}
 use Rattle.in_out_regions.specs.transformers.Lists.{value_at}
-use Rattle.laws_analyses.specs.Coverage.{IsWhole}
-use Rattle.laws_analyses.specs.Regions.Claims.{set_in}
+use Rattle.laws_bounds.specs.laws_analyses.Coverage.{IsWhole}
+use Rattle.laws_bounds.specs.laws_analyses.Regions.Claims.{set_in}
 use Rattle.laws_lines.specs.Marks.Marked.{loops_in}
 use Rattle.pipsmake_base.specs.loop_marker.Results.{ModuleResults}
 use Rattle.pips_top.specs.Said.{scalars_said}

@@ -22,12 +22,12 @@ use Rattle.pipsmake_base.specs.result_lines.declared.reduction.ReduceOp.TheVaria
 use Rattle.pipsmake_base.specs.result_lines.declared.reduction.Reduction.{Reduction}
 use Rattle.pipsmake_base.specs.result_lines.declared.show.Show.TheVariants.{Bare}
 use Rattle.pipsmake_base.specs.pipsmake_meaning.ResultEntries.{results_for}
-use Rattle.laws_analyses.specs.Claims.{AnalysesHold}
+use Rattle.laws_bounds.specs.laws_analyses.Claims.{AnalysesHold}
 use Rattle.laws_interleavings.specs.Marks.{Ended, OutOfPicks, Parallel as Execution}
 use Rattle.laws_interleavings.specs.MarkedPrograms.{marked_run}
 use Rattle.laws_lines.specs.Marks.Directives.{Clauses}
 use Rattle.laws_lines.specs.Marks.MarkedLoops.{directives_of}
-use Rattle.laws_marks.specs.Said.{said_at}
+use Rattle.laws_bounds.specs.laws_marks.Said.{said_at}
 use Rattle.laws_programs.specs.roundtrip_programs.Texts.Texts.{modules_text}
 use Rattle.pips_top.specs.Program.{ProgramTree}
 use Rattle.pips_top.specs.Reading.{reading}
@@ -38,6 +38,7 @@ use Rattle.pips_top.specs.declared.wanted.Wanted.{Wanted}
 use Rattle.pips_top.specs.Small.{text, parsed, table, graph, trace, modules}
 use Rattle.pips_top.specs.SmallFunction as small
 use Rattle.pips_top.specs.SmallParallel as parallel
+use Rattle.pips_top.specs.SmallBounds as bounds
 use Rattle.pips_top.specs.SmallReduced as reduced
 
 abbrev pub program : ProgramTree
@@ -131,7 +132,7 @@ abbrev pub reduction_at : Bool → ProgramTree → List ℕ → ℕ → Option R
 reduction_at reductions p x n = option_and_then (λ r. said_at p.graph reductions r n) (results_in p x)
 
 abbrev pub with_reductions : Wanted
-with_reductions = record { show = Bare; reductions = true }
+with_reductions = record { show = Bare; reductions = true; bounds = false }
 
 -- REDUCTION(+:K)
 abbrev pub sum_of_k : Clauses
@@ -153,3 +154,14 @@ pub record SumIsReducedSo : Type 0 where
   pub backwards : ((run_by (1 ∷ 0 ∷ [])).outcome ≡ Ended Normal) × ((run_by (1 ∷ 0 ∷ [])).printed ≡ reduced.printed)
   -- a pick too few: nothing is printed
   pub short : ((run_by (1 ∷ [])).outcome ≡ OutOfPicks) × ((run_by (1 ∷ [])).printed ≡ [])
+
+-- ---- references
+
+abbrev pub with_bounds : Wanted
+with_bounds = record { show = Bare; reductions = false; bounds = true }
+
+-- of the program with references to an array of ten elements, in a loop whose variable is 2 to 10: that before and that at the variable are safe, and that behind it is not;
+-- the lines stand before the statement, SAFE first; without lines on references none is written
+pub record ReferencesAreCheckedSo : Type 0 where
+  pub written_so : written with_bounds bounds.program ≡ bounds.text_with_checks
+  pub written_alone : written (alone Bare) bounds.program ≡ bounds.text

@@ -22,7 +22,7 @@ shown requested.Why = Why
 
 -- what is wanted beside a program
 abbrev pub wanted_of : Request → Wanted
-wanted_of r = record { show = shown r.show; reductions = r.reductions }
+wanted_of r = record { show = shown r.show; reductions = r.reductions; bounds = r.bounds }
 
 -- without a base
 abbrev pub does_alone : Request → Task → Job

@@ -1,5 +1,6 @@
 -- What is said of programs that are read.
 use Rattle.std.specs.Prelude.{◌≡◌, ℕ, List, Ok}
+use Rattle.pips_top.specs.Bounded.{BoundsHold}
 use Rattle.pips_top.specs.ClaimsRead.{ReadsClaims}
 use Rattle.pips_top.specs.Claimed.{ClaimsHold, SaysAll, LinesMean}
 use Rattle.pips_top.specs.MarkedText.{ReadsMarked, RunsInterleaved}
@@ -16,6 +17,10 @@ use Rattle.pips_top.specs.declared.wanted.Wanted.{Wanted}
 -- what is said of a program that was read is true of every run
 abbrev pub ReadClaimsHold : Type 0
 ReadClaimsHold = (bytes : List ℕ) (p : ProgramTree) → reading bytes ≡ Ok p → ClaimsHold p
+
+-- so is what the lines SAFE say of references
+abbrev pub ReadBoundsHold : Type 0
+ReadBoundsHold = (bytes : List ℕ) (p : ProgramTree) → reading bytes ≡ Ok p → BoundsHold p
 
 -- and leaves nothing out
 abbrev pub ReadAllSaid : Type 0

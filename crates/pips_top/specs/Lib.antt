@@ -5,6 +5,7 @@ pub mod MarksRead
 pub mod Said
 pub mod Covered
 pub mod Claimed
+pub mod Bounded
 pub mod Written
 pub mod ReadBack
 pub mod MarkedText
@@ -26,5 +27,6 @@ pub mod Small
 pub mod SmallFunction
 pub mod SmallParallel
 pub mod SmallReduced
+pub mod SmallBounds
 pub mod ExampleLaws
 pub mod Sample

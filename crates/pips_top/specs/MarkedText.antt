@@ -9,9 +9,9 @@ use Rattle.call_graph.specs.declared.graph.Graph.{Graph}
 use Rattle.pipsmake_base.specs.loop_marker.Results.{ModuleResults}
 use Rattle.laws_interleavings.specs.Accumulating.{Reduction, Directive}
 use Rattle.laws_interleavings.specs.MarkedPrograms.{Directives}
-use Rattle.laws_marks.specs.Names.{op_meant}
-use Rattle.laws_marks.specs.Said.{reductions_of}
-use Rattle.laws_marks.specs.Schedules.{DoesAs}
+use Rattle.laws_bounds.specs.laws_marks.Names.{op_meant}
+use Rattle.laws_bounds.specs.laws_marks.Said.{reductions_of}
+use Rattle.laws_bounds.specs.laws_marks.Schedules.{DoesAs}
 use Rattle.laws_lines.specs.Marks.Directives.{Clause, Clauses}
 use Rattle.laws_lines.specs.Marks.Marked.{ReadMarked}
 use Rattle.laws_lines.specs.Marks.MarkedLoops.{parallel_loops, directives_of, directives_found}

@@ -14,6 +14,7 @@ use Rattle.pipsmake_base.specs.pipsmake_db.Refusals.{link_refusal}
 use Rattle.pipsmake_base.specs.pipsmake_db.State.{State}
 use Rattle.pipsmake_base.specs.pipsmake_db.Answers.{refusal_line}
 use Rattle.pipsmake_base.specs.pipsmake_db.Scripts.{AnswersAll}
+use Rattle.pips_top.specs.Bounded.{BoundsWanted}
 use Rattle.pips_top.specs.ClaimsRead.{ReadsClaims}
 use Rattle.pips_top.specs.Claimed.{ClaimsHold, SaysAll, LinesMean}
 use Rattle.pips_top.specs.MarkedText.{ReadsMarked, RunsInterleaved}
@@ -24,11 +25,12 @@ use Rattle.pips_top.specs.Shown.{alone}
 use Rattle.pips_top.specs.Written.{written}
 use Rattle.pips_top.specs.declared.wanted.Wanted.{Wanted}
 
--- what is written of a program with what is said of it: this is true of every run and leaves nothing out, each line is read as just what is said, the text is read again as the same program,
+-- what is written of a program with what is said of it: this is true of every run, of references too where lines on them are wanted, and leaves nothing out, each line is read as just what is said, the text is read again as the same program,
 -- with just these claims in its bytes, each before its part,
 -- and with its directives as that program with just the parallel loops marked that were found, which does as the program does, these loops interleaved anyhow
 pub record IsSound (show : Wanted) (p : ProgramTree) : Type 0 where
   pub claims : ClaimsHold p
+  pub bounds : BoundsWanted show.bounds p
   pub whole : SaysAll p
   pub lines : LinesMean show p
   pub back : ReadsBack show p

@@ -51,4 +51,4 @@ abbrev pub stale_line : Key → List ℕ
 stale_line k = codes "pips: stale " ++ name_of k.kind ++ codes " " ++ k.name ++ codes "\n"
 
 abbrev pub usage_line : List ℕ
-usage_line = codes "usage: pips [--show all|bare|why] [--base NAME] [--verify] [--session] [--generate N] [--reductions] [INPUT]\n"
+usage_line = codes "usage: pips [--show all|bare|why] [--base NAME] [--verify] [--session] [--generate N] [--reductions] [--bounds] [INPUT]\n"

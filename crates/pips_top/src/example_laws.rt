@@ -1,5 +1,5 @@
 //! What is computed of the small programs.
-ghost use Rattle.pips_top.specs.ExampleLaws.{FunctionIsAnalysedSo, FunctionIsPrivateSo, FunctionIsReadSo, SumIsReducedSo, TextRunsSo, WrongClaimFails};
+ghost use Rattle.pips_top.specs.ExampleLaws.{FunctionIsAnalysedSo, FunctionIsPrivateSo, FunctionIsReadSo, ReferencesAreCheckedSo, SumIsReducedSo, TextRunsSo, WrongClaimFails};
 
 /// The bytes of the text are read as its program, whose run comes to its END by the trace that is written.
 pub fn text_runs_so()
@@ -30,4 +30,9 @@ pub fn function_is_private_so()
 /// largest INTEGER on the way.
 pub fn sum_is_reduced_so()
     ensures { SumIsReducedSo }
+{}
+
+/// Of the references of a statement in a loop, those that stay inside their array stand on a line SAFE, and one that leaves it in the last iteration on a line CHECK.
+pub fn references_are_checked_so()
+    ensures { ReferencesAreCheckedSo }
 {}

@@ -54,10 +54,15 @@ fn does(request: Request) -> Job
         base,
         verify,
         reductions,
+        bounds,
         input,
     } = request;
     let show = shown(show);
-    let wanted = Wanted { show, reductions };
+    let wanted = Wanted {
+        show,
+        reductions,
+        bounds,
+    };
     match base {
         None => match task {
             Task::Write => Job::Write(wanted, input),

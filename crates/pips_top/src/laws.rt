@@ -1,7 +1,9 @@
 //! What is said of a program that was read is true and leaves nothing out, and what is written of it is read again, line by line, as a program, and as one with marked loops.
-ghost use Rattle.pips_top.specs.Laws.{AnsweredSoundly, ReadAllSaid, ReadClaimsBack, ReadClaimsHold, ReadLinesMean, ReadMarkedBack, ReadRunsInterleaved, ReadSoundly, ReadWrittenBack};
+ghost use Rattle.pips_top.specs.Laws.{AnsweredSoundly, ReadAllSaid, ReadBoundsHold, ReadClaimsBack, ReadClaimsHold, ReadLinesMean, ReadMarkedBack, ReadRunsInterleaved, ReadSoundly, ReadWrittenBack};
 
-use laws_analyses::{analyses_are_whole, read_analyses_hold, read_regions_hold};
+use laws_bounds::laws_analyses::{analyses_are_whole, read_analyses_hold, read_regions_hold};
+use laws_bounds::laws_marks::{read_ins_hold, read_outs_hold, read_runs_do_as_plain};
+use laws_bounds::{check_lines_pass, safe_lines_hold};
 use laws_lines::{
     all_in_lines_pass, all_out_lines_pass, all_region_lines_pass, analyses_are_read_back,
     claims_read_back, directives_read_back, in_lines_mean_regions, ins_are_over_places,
@@ -9,7 +11,6 @@ use laws_lines::{
     out_lines_mean_regions, outs_are_over_places, reductions_read_back, region_lines_mean_regions,
     regions_are_over_places, texts_are_written_again,
 };
-use laws_marks::{read_ins_hold, read_outs_hold, read_runs_do_as_plain};
 use laws_programs::blocks_have_a_chain;
 use laws_programs::roundtrip_programs::{
     lines_are_passed_over, names_are_shown, programs_read_back,
@@ -29,6 +30,13 @@ fn claims_hold()
     regions_are_over_places();
     ins_are_over_places();
     outs_are_over_places();
+}
+
+/// What the lines SAFE of a program that was read say of references holds in every run of it, up to its end or its first fault.
+fn bounds_hold()
+    ensures { ReadBoundsHold }
+{
+    safe_lines_hold();
 }
 
 /// Something is said of each module of a program that was read, once; each of its statements has a precondition, a transformer, and sets of READ and WRITE, IN and OUT regions, and each DO a mark.
@@ -66,6 +74,7 @@ fn written_reads_back()
     all_in_lines_pass();
     all_out_lines_pass();
     loop_lines_are_passed_over();
+    check_lines_pass();
     names_are_shown();
     blocks_have_a_chain();
 }
@@ -80,6 +89,7 @@ fn written_reads_claims()
     all_in_lines_pass();
     all_out_lines_pass();
     loop_lines_are_passed_over();
+    check_lines_pass();
     names_are_shown();
     blocks_have_a_chain();
     written_reads_back();
@@ -97,6 +107,7 @@ fn written_reads_marked()
     all_in_lines_pass();
     all_out_lines_pass();
     loop_lines_are_passed_over();
+    check_lines_pass();
     names_are_shown();
     blocks_have_a_chain();
     written_reads_back();
@@ -116,6 +127,7 @@ pub fn written_is_sound()
     ensures { ReadSoundly }
 {
     claims_hold();
+    bounds_hold();
     all_is_said();
     lines_mean_results();
     written_reads_back();

@@ -22,8 +22,8 @@ mod wanted;
 mod written;
 
 pub use example_laws::{
-    function_is_analysed_so, function_is_private_so, function_is_read_so, sum_is_reduced_so,
-    text_runs_so, wrong_claim_fails,
+    function_is_analysed_so, function_is_private_so, function_is_read_so,
+    references_are_checked_so, sum_is_reduced_so, text_runs_so, wrong_claim_fails,
 };
 pub use sample::sample_program;
 pub use status::Status;

@@ -9,7 +9,7 @@ ghost use Rattle.pips_top.specs.Shown.{lines_for, lines_wanted as lines_wanted_i
 
 use crate::program::Program;
 use crate::reduced::lines_reduced;
-use crate::wanted::Wanted;
+use crate::wanted::{Wanted, is_alone};
 use call_graph::{Graph, View};
 use f77_printer::Added;
 use fx_lists::{List, Text};
@@ -85,7 +85,7 @@ fn lines_wanted(
     requires { ResultsFit results.now }
     ensures { IfOk result (λ lines. lines ≡ lines_wanted_is wanted graph.now (results_tree results.now)) }
 {
-    if !wanted.reductions {
+    if is_alone(wanted) {
         return lines_on(alloc, graph, wanted.show, results);
     }
     let view = View {
@@ -102,7 +102,7 @@ fn lines_wanted(
         ins: &results.ins,
         outs: &results.outs,
     };
-    lines_reduced(alloc, &analysis, &results.marks, wanted.show)
+    lines_reduced(alloc, &analysis, &results.marks, wanted)
 }
 
 /// The comment lines that are wanted beside the module with a name; none where nothing in `all` is of it.

@@ -5,7 +5,7 @@ ghost use Rattle.pips_top.specs.Replies.{AnswersFirst, PrintsWhole, RefusedBy};
 
 use crate::kept::reduced_text;
 use crate::make::Made;
-use crate::wanted::Wanted;
+use crate::wanted::{Wanted, is_alone};
 use fx_lists::Text;
 use laws_programs::roundtrip_programs::{graphs_ignore_places, tables_ignore_places};
 use pipsmake_base::laws_database::{accepted_is_split, linked_alike, linked_is_accepted};
@@ -61,9 +61,9 @@ pub fn print_over(alloc: Global, db: &mut Db, wanted: Wanted, text: &Text) -> Re
         Err(refusal) => return refused(alloc, refusal),
     }
     let Prints { made: _made, text } = print_all(alloc, db, wanted.show)?;
-    if wanted.reductions {
-        let text = reduced_text(alloc, db, wanted.show)?;
+    if is_alone(wanted) {
         return Ok(Made::Writes(text));
     }
+    let text = reduced_text(alloc, db, wanted)?;
     Ok(Made::Writes(text))
 }

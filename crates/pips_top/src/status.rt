@@ -62,7 +62,7 @@ pub fn usage_line(alloc: Global) -> Result<Text, Memory>
 {
     Text::from_bytes(
         alloc,
-        b"usage: pips [--show all|bare|why] [--base NAME] [--verify] [--session] [--generate N] [--reductions] [INPUT]\n",
+        b"usage: pips [--show all|bare|why] [--base NAME] [--verify] [--session] [--generate N] [--reductions] [--bounds] [INPUT]\n",
     )
 }
 

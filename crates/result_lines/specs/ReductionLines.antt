@@ -45,11 +45,11 @@ abbrev pub loop_lines_of : Known → Bool → List (At Reduction) → List (At M
 loop_lines_of k why [] ms = mark_lines_of k why ms
 loop_lines_of k why (r ∷ rs) ms = loop_lines (module_functions k.read) (symbol_names k.symbols) why (r ∷ rs) ms
 
--- as `lines_of`; so it is word for word where no loop has reduction variables
-abbrev pub reduced_lines_of : Show → Known → PrintedResults → List (At Reduction) → List Added
-reduced_lines_of All k r rs = claims_of k r ++ loop_lines_of k true rs r.marks
-reduced_lines_of Bare k r rs = loop_lines_of k false rs r.marks
-reduced_lines_of Why k r rs = loop_lines_of k true rs r.marks
+-- as `lines_of`, with the lines on the checks of references behind the claims; so it is word for word where there are none, and no loop has reduction variables
+abbrev pub reduced_lines_of : Show → Known → PrintedResults → List (At Reduction) → List Added → List Added
+reduced_lines_of All k r rs checks = claims_of k r ++ (checks ++ loop_lines_of k true rs r.marks)
+reduced_lines_of Bare k r rs checks = checks ++ loop_lines_of k false rs r.marks
+reduced_lines_of Why k r rs checks = checks ++ loop_lines_of k true rs r.marks
 
 -- ---- what is said of loops
 

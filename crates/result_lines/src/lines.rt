@@ -1,5 +1,5 @@
-//! The lines of a module: claims on scalars first, then READ and WRITE, then IN, then OUT, and last directives and obstacles.
-ghost use Rattle.std.specs.Prelude.{◌≡◌, IfOk};
+//! The lines of a module: claims on scalars first, then READ and WRITE, then IN, then OUT, then the checks of references, and last directives and obstacles.
+ghost use Rattle.std.specs.Prelude.{◌≡◌, ◌++◌, IfOk};
 ghost use Rattle.module_phases.specs.ScalarViews.{known_in};
 ghost use Rattle.result_lines.specs.Lines.{claims_of, mark_lines_of, lines_of, region_lines_of, printed_tree, scalar_lines_of};
 ghost use Rattle.result_lines.specs.ReductionLines.{loop_lines_of, reduced_lines_of};
@@ -118,24 +118,50 @@ fn lines_on_reduced(
     loop_lines(alloc, view, marks, reduced, why)
 }
 
-/// As `result_lines`, but that these loops have REDUCTION clauses in place of their obstacles.
+/// The lines on the checks of references, and behind them those on loops, some of which have reduction variables.
+fn checks_and_loops(
+    alloc: Global,
+    view: &View<'_>,
+    reduced: &List<At<Reduction>>,
+    checks: List<Added>,
+    marks: &List<At<Mark>>,
+    why: bool,
+) -> Result<List<Added>, Memory>
+    ensures { IfOk result (λ lines. lines ≡ checks ++ loop_lines_of (known_in view.now) why reduced.now marks.now) }
+{
+    let mut lines = checks.into_vec();
+    let mut loops = lines_on_reduced(alloc, view, reduced, marks, why)?.into_vec();
+    lines.append(&mut loops)?;
+    Ok(List::from_vec(lines))
+}
+
+/// As `result_lines`, but that these loops have REDUCTION clauses in place of their obstacles, and that the lines on the checks of references
+/// stand behind the claims and before the lines on loops, whatever `show` is.
 pub fn reduced_lines(
     alloc: Global,
     view: &View<'_>,
     results: &PrintedResults<'_>,
     show: Show,
     reduced: &List<At<Reduction>>,
+    checks: List<Added>,
 ) -> Result<List<Added>, Memory>
-    ensures { IfOk result (λ lines. lines ≡ reduced_lines_of show (known_in view.now) (printed_tree results.now) reduced.now) }
+    ensures { IfOk result (λ lines. lines ≡ reduced_lines_of show (known_in view.now) (printed_tree results.now) reduced.now checks) }
 {
     match show {
         Show::All => {
             let mut lines = claims_of(alloc, view, results)?.into_vec();
-            let mut loops = lines_on_reduced(alloc, view, reduced, results.marks, true)?.into_vec();
-            lines.append(&mut loops)?;
+            let mut rest = checks_and_loops(
+                alloc,
+                view,
+                reduced,
+                checks,
+                results.marks,
+                true,
+            )?.into_vec();
+            lines.append(&mut rest)?;
             Ok(List::from_vec(lines))
         }
-        Show::Bare => lines_on_reduced(alloc, view, reduced, results.marks, false),
-        Show::Why => lines_on_reduced(alloc, view, reduced, results.marks, true),
+        Show::Bare => checks_and_loops(alloc, view, reduced, checks, results.marks, false),
+        Show::Why => checks_and_loops(alloc, view, reduced, checks, results.marks, true),
     }
 }

@@ -64,7 +64,7 @@ module _ (m : ScopeTree) (t : Found) (c : Called) where
 
 -- ---- what is found
 
-each_in : {T : Type 0} (P : T → Type 0) (xs : List T) (a : T) → Each P xs → In a xs → P a
+pub each_in : {T : Type 0} (P : T → Type 0) (xs : List T) (a : T) → Each P xs → In a xs → P a
 each_in P [] a h i = elim i [ ]
 each_in P (x ∷ xs) a h here = h.0
 each_in P (x ∷ xs) a h (there i) = each_in P xs a h.1 i

@@ -160,7 +160,7 @@ dummy_bounds_mean c tracked e y (b ∷ bs) (d ∷ ds) h = (
 
 -- ---- forms of bounds: of the caller, with the numbers at its entry of cells that no statement changes
 
-unless_some : (cs : List ℕ) (o : Option Affine) (f : Affine) → unless_among cs o ≡ Some f → (o ≡ Some f) × (lack cs f.terms ≡ true)
+pub unless_some : (cs : List ℕ) (o : Option Affine) (f : Affine) → unless_among cs o ≡ Some f → (o ≡ Some f) × (lack cs f.terms ≡ true)
 unless_some cs None f e = cc
 unless_some cs (Some g) f e = go (lack cs g.terms) refl e
   where

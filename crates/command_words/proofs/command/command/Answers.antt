@@ -12,4 +12,5 @@ returns c =
     let four = with_rule-next _ _ _ _ (flag_rule (codes "session")) three c.flag-2.ensures.rule c.in_ok-command-4.ensures in
     let five = with_rule-next _ _ _ _ (valued_rule (codes "generate")) four c.valued-3.ensures.rule c.in_ok-command-5.ensures in
     let six = with_rule-next _ _ _ _ (flag_rule (codes "reductions")) five c.flag-3.ensures.rule c.in_ok-command-6.ensures in
-    with_rule-next _ _ _ _ input_rule six c.input.ensures.rule c.in_ok-command-7.ensures
+    let seven = with_rule-next _ _ _ _ (flag_rule (codes "bounds")) six c.flag-4.ensures.rule c.in_ok-command-7.ensures in
+    with_rule-next _ _ _ _ input_rule seven c.input.ensures.rule c.in_ok-command-8.ensures

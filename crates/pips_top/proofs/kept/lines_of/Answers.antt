@@ -19,4 +19,4 @@ returns c =
       ins = k.ins;
       outs = k.outs;
     } in
-    subst (λ (ls : List Added). IfOk c.lines_reduced.result (λ lines. lines ≡ ls)) (lines_apart c.args.show a k.marks.now) c.lines_reduced.ensures
+    subst (λ (ls : List Added). IfOk c.lines_reduced.result (λ lines. lines ≡ ls)) (lines_apart c.args.wanted a k.marks.now) c.lines_reduced.ensures

@@ -2,4 +2,4 @@ use Rattle.pips_top.proofs.ClaimsBack.{claims_back_from}
 use Rattle.pips_top.proofs.laws.written_reads_claims.Goals as goal
 
 pub returns : goal.returns
-returns c = claims_back_from c.claims_read_back.ensures c.lines_are_passed_over.ensures c.all_region_lines_pass.ensures c.all_in_lines_pass.ensures c.all_out_lines_pass.ensures c.loop_lines_are_passed_over.ensures c.names_are_shown.ensures c.blocks_have_a_chain.ensures c.written_reads_back.ensures
+returns c = claims_back_from c.claims_read_back.ensures c.lines_are_passed_over.ensures c.all_region_lines_pass.ensures c.all_in_lines_pass.ensures c.all_out_lines_pass.ensures c.loop_lines_are_passed_over.ensures c.check_lines_pass.ensures c.names_are_shown.ensures c.blocks_have_a_chain.ensures c.written_reads_back.ensures

@@ -1,18 +1,17 @@
-use Rattle.std.proofs.Common.{◌≡◌, Bool, true, false, List, refl, ap, ◌∙◌, subst}
-use Rattle.std.specs.Prelude.{IfOk, not}
+use Rattle.std.proofs.Common.{◌≡◌, List, refl, sym, ◌∙◌, subst}
+use Rattle.std.specs.Prelude.{IfOk}
 use Rattle.f77_printer.specs.declared.added.Added.{Added}
 use Rattle.call_graph.specs.declared.view.View.{View}
-use Rattle.laws_marks.specs.Said.{reductions_of}
 use Rattle.pipsmake_base.specs.loop_marker.Views.{results_tree}
 use Rattle.pipsmake_base.specs.loop_marker.dependence_test.declared.analysis.Analysis.{Analysis}
-use Rattle.pipsmake_base.specs.pipsmake_meaning.Definitions.{printed_of}
-use Rattle.pipsmake_base.specs.result_lines.ReductionLines.{reduced_lines_of}
-use Rattle.pips_top.proofs.Analysed.{lines_known}
+use Rattle.pips_top.proofs.Alone.{wanted_alone}
+use Rattle.pips_top.proofs.Analysed.{lines_are}
 use Rattle.pips_top.proofs.results.lines_wanted.Goals as goal
 
-is_wanted : (b : Bool) → not b ≡ false → true ≡ b
-is_wanted true e = refl
-is_wanted false e = cc
+pub returns-then-is_alone : goal.returns-then-is_alone
+returns-then-is_alone c =
+    let f = results_tree c.args.results.now in
+    subst (λ (ls : List Added). IfOk c.lines_on.result (λ lines. lines ≡ ls)) (sym (wanted_alone c.args.wanted c.args.graph.now f (sym c.is_alone.ensures ∙ c.if-is_alone.true))) c.lines_on.ensures
 
 pub returns : goal.returns
 returns c =
@@ -29,5 +28,4 @@ returns c =
       ins = record { ref_ptr = p; now = r.ins };
       outs = record { ref_ptr = p; now = r.outs };
     } in
-    subst (λ (ls : List Added). IfOk c.lines_reduced.result (λ lines. lines ≡ ls))
-    (lines_known c.args.wanted.show a r.marks ∙ ap (λ (b : Bool). reduced_lines_of c.args.wanted.show f.known (printed_of f) (reductions_of b c.args.graph.now f)) (is_wanted c.args.wanted.reductions c.if-not-wanted.false)) c.lines_reduced.ensures
+    subst (λ (ls : List Added). IfOk c.lines_reduced.result (λ lines. lines ≡ ls)) (lines_are c.args.wanted a r.marks c.args.graph.now f refl) c.lines_reduced.ensures

@@ -21,12 +21,12 @@ returns-in-Err-link c =
     (λ m. refused_as_links c.linked_alike.ensures c.args.wanted c.args.text.now (texts_of c.replace_all.new.self) (replaced.read ∙ ap Ok (sym replaced.texts)) d e c.in-Err-link.refusal m c.in-Err-link.ensures.refused)
     c.refused-in-Err-link.ensures
 
-pub returns-then-wanted : goal.returns-then-wanted
-returns-then-wanted c =
-    reduced_over c.accepted_is_split.ensures c.linked_is_accepted.ensures c.making_stays_current.ensures.printed c.tables_ignore_places.ensures c.graphs_ignore_places.ensures c.args.wanted c.args.text.now c.args.db.now c.replace_all.new.self
-    c.link.new.self c.print_all.new.db c.in-Ok.field-0 c.in_ok-_made.field-0 c.in-Ok.ensures.ok c.in-Ok-link.ensures.ok c.in-Ok-link.ensures.same c.in_ok-_made.ensures c.if-wanted.true c.in_ok-text.text c.in_ok-text.ensures
+pub returns-then-is_alone : goal.returns-then-is_alone
+returns-then-is_alone c =
+    printed_over c.accepted_is_split.ensures c.linked_is_accepted.ensures c.making_stays_current.ensures.printed c.tables_ignore_places.ensures c.graphs_ignore_places.ensures c.args.wanted c.args.text.now c.args.db.now c.replace_all.new.self
+    c.link.new.self c.print_all.new.db c.in-Ok.field-0 c.in_ok-_made.field-0 c.in-Ok.ensures.ok c.in-Ok-link.ensures.ok c.in-Ok-link.ensures.same c.in_ok-_made.ensures (sym c.is_alone.ensures ∙ c.if-is_alone.true)
 
 pub returns : goal.returns
 returns c =
-    printed_over c.accepted_is_split.ensures c.linked_is_accepted.ensures c.making_stays_current.ensures.printed c.tables_ignore_places.ensures c.graphs_ignore_places.ensures c.args.wanted c.args.text.now c.args.db.now c.replace_all.new.self
-    c.link.new.self c.print_all.new.db c.in-Ok.field-0 c.in_ok-_made.field-0 c.in-Ok.ensures.ok c.in-Ok-link.ensures.ok c.in-Ok-link.ensures.same c.in_ok-_made.ensures c.if-wanted.false
+    reduced_over c.accepted_is_split.ensures c.linked_is_accepted.ensures c.making_stays_current.ensures.printed c.tables_ignore_places.ensures c.graphs_ignore_places.ensures c.args.wanted c.args.text.now c.args.db.now c.replace_all.new.self
+    c.link.new.self c.print_all.new.db c.in-Ok.field-0 c.in_ok-_made.field-0 c.in-Ok.ensures.ok c.in-Ok-link.ensures.ok c.in-Ok-link.ensures.same c.in_ok-_made.ensures c.in_ok-text.text c.in_ok-text.ensures
