@@ -63,16 +63,20 @@ use Rattle.laws_marks.proofs.ConflictEach.{plan_more}
 use Rattle.laws_marks.proofs.Merging.{merged}
 use Rattle.laws_programs.proofs.Effects.Once.{main_of_linked as some_main}
 use Rattle.call_graph.proofs.EachLaws.{each_more}
-use Rattle.laws_bounds.specs.Claims.{SafeHolds, known_by, ChecksHold, AllChecksHold}
+use Rattle.preconditions.specs.transformers.Simple.{named_cells}
+use Rattle.laws_analyses.proofs.Regions.Numbering.{each_in}
+use Rattle.laws_bounds.specs.Evaluations.{Evaluation, evaluations, ComesTo}
+use Rattle.laws_bounds.specs.Claims.{SameBut, SafeHolds, Keeps, known_by, ChecksHold, AllChecksHold}
 use Rattle.laws_bounds.specs.Accepted.{ReadChecksHold}
 use Rattle.laws_bounds.proofs.Bounds.{VariablesAre}
 use Rattle.laws_bounds.proofs.Safe.{stays_inside}
-use Rattle.laws_bounds.proofs.Reached.{AtStatement, PartBoundsAre, EachBoundsAre, bounds_hold}
+use Rattle.laws_bounds.proofs.Reached.{AtStatement, DoesKeeping, PartBoundsAre, EachBoundsAre, bounds_hold}
 
 -- ---- what is claimed of a part is what is claimed of its module
 
 abbrev ModuleBoundsAre : Graph → Execution → Analysis → Type 0
-ModuleBoundsAre g x a = a.found.known.read.name ≡ x.spot.module_name → AtStatement x.spot.statement (VariablesAre (names a.found.known.symbols) (scope_of g.untracked a.found.known) (changed_cells a.found.own.at) x.places x.start)
+ModuleBoundsAre g x a = a.found.known.read.name ≡ x.spot.module_name → AtStatement x.spot.statement (VariablesAre (names a.found.known.symbols) (scope_of g.untracked a.found.known) (changed_cells a.found.own.at) x.places x.start
+    × DoesKeeping (names a.found.known.symbols) (scope_of g.untracked a.found.known) a.found.known.read.body x)
 
 abbrev AllBoundsAre : Graph → List Analysis → Execution → Type 0
 AllBoundsAre g as' x = All (ModuleBoundsAre g x) as'
@@ -90,7 +94,7 @@ module _ (ps : List ParsedTree) (sss : List (List SymbolTree)) (g : Graph) (l : 
         let named : of a.found.known.read.name ≡ part a.found.known = ap part (module_named_is ps sss g l r.good.at a.found.known r.good.is_module) in
         let there : of x.spot.module_name ≡ part a.found.known = ap of (sym n) ∙ named in
         let here = subst (λ (p : Part). PartBoundsAre (callees_of_all (known_of ps sss) g) p x) there h in
-        subst (λ (t : Results Transformer). AtStatement x.spot.statement (VariablesAre (names a.found.known.symbols) (scope_of g.untracked a.found.known) (changed_cells t.at) x.places x.start)) (sym r.good.own) here
+        subst (λ (t : Results Transformer). AtStatement x.spot.statement (VariablesAre (names a.found.known.symbols) (scope_of g.untracked a.found.known) (changed_cells t.at) x.places x.start × DoesKeeping (names a.found.known.symbols) (scope_of g.untracked a.found.known) a.found.known.read.body x)) (sym r.good.own) here
 
     follows : AllBoundsAre g (analyses (known_of ps sss) g) x
     follows = all_of_each (ModuleBoundsAre g x) (analyses (known_of ps sss) g) (each_more (Located ps sss g l (analyses (known_of ps sss) g)) (ModuleBoundsAre g x) (analyses (known_of ps sss) g) holds_of (all_located ps sss g l))
@@ -109,6 +113,18 @@ module _ (g : Graph) (p : Spot) (at : Places) (t : Plan) (s : Store) (i : List C
       stays_inside (names a.found.known.symbols) (known_by g a) (suc n) at s known
       (λ q f. system_holds (is_tracked g a) (suc n) (value_at a.holds.at (suc n)) h q f) written z same e safe
 
+  one_keeps : (a : Analysis) (n : ℕ) → p.statement ≡ n → AtStatement n (VariablesAre (names a.found.known.symbols) (scope_of g.untracked a.found.known) (changed_cells a.found.own.at) at s × DoesKeeping (names a.found.known.symbols) (scope_of g.untracked a.found.known) a.found.known.read.body (record { spot = p; places = at; does = t; start = s; input = i }))
+      → Keeps (names a.found.known.symbols) (scope_of g.untracked a.found.known) a.found.known.read.body n (record { spot = p; places = places_in n t s i at; start = s; ran = run_of t s i; later = later })
+  one_keeps a zero e known = tt
+  one_keeps a (suc n) e known =
+      let d = known.1 in
+      record { statement = d.statement; stands = d.stands; number = d.number; plan = t; input = i; ran = refl; does = d.does; keeps = λ v j. each_in (λ (u : Evaluation). ComesTo (names a.found.known.symbols) at d.does.locked (d.does.scope.own_unit d.statement.number) u s i (λ z. SameBut (scope_of g.untracked a.found.known) at (named_cells (scope_of g.untracked a.found.known).scalars u.items) s z)) (evaluations d.statement.what) v d.keeps j }
+
+  variables_so : (a : Analysis) (n : ℕ) → AtStatement n (VariablesAre (names a.found.known.symbols) (scope_of g.untracked a.found.known) (changed_cells a.found.own.at) at s × DoesKeeping (names a.found.known.symbols) (scope_of g.untracked a.found.known) a.found.known.read.body (record { spot = p; places = at; does = t; start = s; input = i }))
+      → AtStatement n (VariablesAre (names a.found.known.symbols) (scope_of g.untracked a.found.known) (changed_cells a.found.own.at) at s)
+  variables_so a zero known = tt
+  variables_so a (suc n) known = known.0
+
   abbrev Known_so : Analysis → Type 0
   Known_so a = ModuleBoundsAre g (record { spot = p; places = at; does = t; start = s; input = i }) a
 
@@ -119,7 +135,7 @@ module _ (g : Graph) (p : Spot) (at : Places) (t : Plan) (s : Store) (i : List C
   Claimed_so a = a.found.known.read.name ≡ p.module_name → ChecksHold g a (record { spot = p; places = places_in p.statement t s i at; start = s; ran = run_of t s i; later = later })
 
   one_claimed : (a : Analysis) → Known_so a → Holds_so a → Claimed_so a
-  one_claimed a e h n = one_safe a p.statement (e n) (h n).precondition
+  one_claimed a e h n = record { safe = one_safe a p.statement (variables_so a p.statement (e n)) (h n).precondition; keeps = one_keeps a p.statement refl (e n) }
 
   all_safe : (as' : List Analysis) → All Known_so as' → All Holds_so as' → All Claimed_so as'
   all_safe [] e h = All-nil Claimed_so

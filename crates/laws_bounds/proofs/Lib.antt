@@ -13,3 +13,6 @@ pub mod Lines
 pub mod Texts
 pub mod Passed
 pub mod SafeLines
+pub mod Keeping
+pub mod Whats
+pub mod Parts

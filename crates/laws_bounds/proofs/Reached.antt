@@ -1,11 +1,13 @@
 -- The modules of a program, from the last to the first: what is claimed of the bounds of their variables where statements begin.
 use Rattle.std.proofs.Common.{◌≡◌, ℕ, zero, suc, ◌<◌, List, [], ◌∷◌, Option, Some, None, Bool, true, false, refl, sym, subst}
 use Rattle.std.specs.Prelude.{if◌then◌else◌, bytes_eq}
+use Rattle.std.proofs.lemmas.Bool.{not-false}
 use Rattle.affine_systems.specs.declared.row.System.{System}
-use Rattle.f77_ast.specs.Trees.{WhatTree}
+use Rattle.f77_ast.specs.Trees.{WhatTree, StmtTrees}
+use Rattle.f77_ast.specs.Trees as tree
 use Rattle.f77_ast.specs.Store.{Content, Store}
 use Rattle.f77_ast.specs.Runs.{Ran, store_of}
-use Rattle.f77_ast.specs.Places.{Place, Places, Variable}
+use Rattle.f77_ast.specs.Places.{Place, Places, Variable, Names}
 use Rattle.f77_ast.specs.Faults.{Locked}
 use Rattle.f77_ast.specs.Writes.{Locks, no_locks, lock}
 use Rattle.f77_ast.specs.Plans.{Flow, Plan, Ends, Within, ◌▹◌}
@@ -36,7 +38,7 @@ use Rattle.laws_analyses.proofs.Calls.Enter.{Fits, begin_fits, more_fits}
 use Rattle.laws_analyses.specs.Calls.Parts.{Blocks, Part, places_in as dummy_places, still_in, Sane}
 use Rattle.laws_analyses.specs.Calls.ProgramLaws.{routines, Analysed, AnalysedParts, AnalysedProgram}
 use Rattle.laws_analyses.specs.Calls.Sites.{CoversFrom, Covers, lookup, Entered}
-use Rattle.laws_analyses.specs.Regions.Settings.{scene, Sound}
+use Rattle.laws_analyses.specs.Regions.Settings.{scene, Sound, has_plain}
 use Rattle.laws_analyses.specs.Regions.Entries.{dummies_reads}
 use Rattle.laws_analyses.specs.Regions.Programs.{called_in, regions_in_part, EachRegionHolds}
 use Rattle.laws_analyses.proofs.Regions.Actuals.{AllOffer, actuals_hold}
@@ -61,7 +63,16 @@ use Rattle.laws_marks.proofs.ConflictEach.{plan_looked, plan_holding, plan_forge
 use Rattle.laws_marks.proofs.ConflictModules as loops
 use Rattle.laws_marks.proofs.ConflictReaching.{Owed, CallReaches, list_reached}
 use Rattle.laws_marks.proofs.ConflictWhats.{list_whats}
+use Rattle.preconditions.specs.call_translation.Scopes.{ScopeTree}
+use Rattle.preconditions.specs.transformer_algebra.Laws.{In}
+use Rattle.preconditions.specs.transformers.Simple.{named_cells}
+use Rattle.laws_analyses.specs.Statements.Targets.{has_targets}
+use Rattle.laws_bounds.specs.Claims.{SameBut}
+use Rattle.laws_bounds.specs.Evaluations.{Evaluation, evaluations, ComesTo, Does}
+use Rattle.laws_bounds.specs.Lines.{Statement, body_all}
 use Rattle.laws_bounds.proofs.Bounds.{VariablesAre, variables_are}
+use Rattle.laws_bounds.proofs.Keeping.{evaluations_keep}
+use Rattle.laws_bounds.proofs.Whats.{IsStatement, list_found}
 
 -- ---- claims
 
@@ -74,8 +85,17 @@ at_statement : (n : ℕ) (P : Type 0) → P → AtStatement n P
 at_statement zero P h = tt
 at_statement (suc n) P h = h
 
+-- an execution does a statement of the module, and keeps the analysed scalars where it evaluates
+pub record DoesKeeping (w : Names) (m : ScopeTree) (body : StmtTrees) (x : Execution) : Type 0 where
+  pub statement : Statement
+  pub stands : In statement (body_all body)
+  pub number : statement.number ≡ x.spot.statement
+  pub does : Does w statement.number statement.what x.places x.does
+  pub keeps : Each (λ (v : Evaluation). ComesTo w x.places does.locked (does.scope.own_unit statement.number) v x.start x.input (λ z. SameBut m x.places (named_cells m.scalars v.items) x.start z)) (evaluations statement.what)
+
 abbrev pub PartBoundsAre : Callees → Part → Execution → Type 0
-PartBoundsAre cs k x = AtStatement x.spot.statement (VariablesAre k.routine.names k.scope (changed_cells (transformers_of k.routine.body k.scope cs).at) x.places x.start)
+PartBoundsAre cs k x =
+    AtStatement x.spot.statement (VariablesAre k.routine.names k.scope (changed_cells (transformers_of k.routine.body k.scope cs).at) x.places x.start × DoesKeeping k.routine.names k.scope k.routine.body x)
 
 -- by the name of its module
 abbrev pub EachBoundsAre : Callees → (List ℕ → Part) → Execution → Type 0
@@ -142,14 +162,31 @@ module _ (ks : List Known) (g : Graph) (b : Blocks) (cs : Callees) (sites : List
 
         -- ---- its statements
 
-        claim : (n : ℕ) (t : Plan) (z : Store) (i : List Content) → I z → PartBoundsAre cs k (record { spot = spot k.routine.name n; places = at; does = t; start = z; input = i })
-        claim n t z i iz = at_statement n (VariablesAre k.routine.names k.scope (changed_cells (transformers_of k.routine.body k.scope cs).at) at z) (variables_are ks g b k sane first.goes.regular first.goes.joins (changed_cells (transformers_of k.routine.body k.scope cs).at) ps began at bound z iz)
+        claim : (n : ℕ) (t : Plan) (z : Store) (i : List Content) → I z → DoesKeeping k.routine.names k.scope k.routine.body (record { spot = spot k.routine.name n; places = at; does = t; start = z; input = i })
+            → PartBoundsAre cs k (record { spot = spot k.routine.name n; places = at; does = t; start = z; input = i })
+        claim n t z i iz keeping =
+            at_statement n (VariablesAre k.routine.names k.scope (changed_cells (transformers_of k.routine.body k.scope cs).at) at z × DoesKeeping k.routine.names k.scope k.routine.body (record { spot = spot k.routine.name n; places = at; does = t; start = z; input = i }))
+            (variables_are ks g b k sane first.goes.regular first.goes.joins (changed_cells (transformers_of k.routine.body k.scope cs).at) ps began at bound z iz, keeping)
 
-        owed : (as' : List (At WhatTree)) → Each (Owed started is_sound C0 D0 (Fits b k ps at) fit_base fit_more I acc firsts C) as'
-        owed [] = tt
-        owed (a ∷ as') = (
-          (λ last locked still fit units st pa z iz i. of_part a.id at (execution a.value a.id started.sc at locked) z i (claim a.id (execution a.value a.id started.sc at locked) z i iz)),
-          owed as',
+        keeping : (a : At WhatTree) → IsStatement (body_all k.routine.body) a → (locked : Locks) (still : ℕ → Bool) → Fits b k ps at locked still → has_targets started.scalar a.value ≡ true → has_plain started.scalar a.value ≡ true → (z : Store) (i : List Content)
+            → DoesKeeping k.routine.names k.scope k.routine.body (record { spot = spot k.routine.name a.id; places = at; does = execution a.value a.id started.sc at locked; start = z; input = i })
+        keeping a is_one locked still fit targets plain z i = record {
+          statement = record { number = a.id; line = is_one.0; what = a.value };
+          stands = is_one.1;
+          number = refl;
+          does = record { scope = started.sc; named = refl; locked = locked; is = refl };
+          keeps = evaluations_keep C0 started.base is_sound locked still (fit_base locked still fit) a.id (fit_base locked still fit).solid
+              (apart C0 ks g b cs sites (λ p. (regions_in_part g cs (rs p.routine.name) p).summary) (called_in g cs (rs k.routine.name) k) k sane first.goes.regular turns callee ps at bound.made is_sound first.goes.joins.own_below [] tree.no_exprs a.id locked still fit z)
+              z i a.value targets plain;
+        }
+
+        owed : (as' : List (At WhatTree)) → Each (IsStatement (body_all k.routine.body)) as' → Each (Owed started is_sound C0 D0 (Fits b k ps at) fit_base fit_more I acc firsts C) as'
+        owed [] are = tt
+        owed (a ∷ as') are = (
+          (λ last locked still fit units st pa z iz i. of_part a.id at (execution a.value a.id started.sc at locked) z i
+              (claim a.id (execution a.value a.id started.sc at locked) z i iz
+              (keeping a are.0 locked still fit (not-false (has_targets started.scalar a.value) st.base.targets) (not-false (has_plain started.scalar a.value) st.base.plain) z i))),
+          owed as' are.1,
         )
 
         -- ---- its CALLs
@@ -197,7 +234,7 @@ module _ (ks : List Known) (g : Graph) (b : Blocks) (cs : Callees) (sites : List
           statements_reached i =
               list_reached started is_sound C0 D0 (Fits b k ps at) fit_base fit_more I acc firsts C k.routine.body true (lock_doubly locked0 k.routine.dummies at k.routine.common) (still_in k ps locked0) (begin_fits b k sane ps locked0 ent at bound.made)
               begun_units
-              stands (owed (list_whats k.routine.body)) (all_called (list_calls k.routine.body) analysed.calls first.sends) began
+              stands (owed (list_whats k.routine.body) (list_found 0 k.routine.body)) (all_called (list_calls k.routine.body) analysed.calls first.sends) began
               (steady_begin started.base (changed_cells (transformers_of k.routine.body k.scope cs).at) began) i
 
     -- ---- a call of it

@@ -1,23 +1,28 @@
 -- What is claimed of references that are found safe: where a statement evaluates one, its subscripts are those of an element.
 use Rattle.std.specs.Prelude.{◌≡◌, ℕ, zero, suc, true, false, List, All, IsSome}
-use Rattle.f77_ast.specs.Trees.{ExprTree, ExprTrees}
+use Rattle.f77_ast.specs.Trees.{ExprTree, ExprTrees, StmtTrees}
 use Rattle.f77_ast.specs.Trees as tree
 use Rattle.f77_ast.specs.Store.{Content, Store}
 use Rattle.f77_ast.specs.Places.{Meant, Constant, Variable, Function, Names, Places, element_in}
 use Rattle.f77_ast.specs.Values.{values}
 use Rattle.f77_ast.specs.Runs.{Whole, run}
-use Rattle.f77_ast.specs.Executions.{AtEndOf}
+use Rattle.f77_ast.specs.Plans.{Plan}
+use Rattle.f77_ast.specs.Executions.{AtEndOf, run_of}
 use Rattle.f77_ast.specs.Claims.{number_in}
 use Rattle.call_graph.specs.declared.graph.Graph.{Graph}
 use Rattle.f77_meaning.specs.Modules.{names}
 use Rattle.f77_meaning.specs.Occurrences.{Occurrence}
 use Rattle.affine_forms.specs.Scalars.{is_cell}
 use Rattle.preconditions.specs.transformer_algebra.Cells.{has}
+use Rattle.preconditions.specs.transformer_algebra.Laws.{In}
+use Rattle.preconditions.specs.transformers.Simple.{named_cells}
 use Rattle.preconditions.specs.call_translation.Scopes.{ScopeTree}
 use Rattle.in_out_regions.specs.call_equations.Sides.{changed_cells}
 use Rattle.bound_check.specs.loop_marker.module_phases.ScalarPhases.{scope_of, Analysis}
 use Rattle.bound_check.specs.Safe.{is_safe}
 use Rattle.bound_check.specs.Checked.{Knowledge, rows_at}
+use Rattle.laws_bounds.specs.Evaluations.{Evaluation, evaluations, ComesTo, Does}
+use Rattle.laws_bounds.specs.Lines.{Statement, body_all}
 
 -- ---- one reference
 
@@ -57,9 +62,26 @@ SafeHolds w k (suc n) at s =
 abbrev pub known_by : Graph → Analysis → Knowledge
 known_by g a = record { scope = scope_of g.untracked a.found.known; changed = changed_cells a.found.own.at; preconditions = a.holds.at }
 
+-- an execution does a statement of the module, and where it evaluates an expression the analysed scalars have the numbers of the arrival, but for those that are set by items before
+pub record KeepsAt (w : Names) (m : ScopeTree) (body : StmtTrees) (x : Occurrence) : Type 0 where
+  pub statement : Statement
+  pub stands : In statement (body_all body)
+  pub number : statement.number ≡ x.spot.statement
+  pub plan : Plan
+  pub input : List Content
+  pub ran : x.ran ≡ run_of plan x.start input
+  pub does : Does w statement.number statement.what x.places plan
+  pub keeps : (v : Evaluation) → In v (evaluations statement.what) → ComesTo w x.places does.locked (does.scope.own_unit statement.number) v x.start input (λ z. SameBut m x.places (named_cells m.scalars v.items) x.start z)
+
+-- the entry evaluates no statement
+abbrev pub Keeps : Names → ScopeTree → StmtTrees → ℕ → Occurrence → Type 0
+Keeps w m body zero x = Unit {0}
+Keeps w m body (suc n) x = KeepsAt w m body x
+
 -- of an execution of a statement of the module
-abbrev pub ChecksHold : Graph → Analysis → Occurrence → Type 0
-ChecksHold g a x = SafeHolds (names a.found.known.symbols) (known_by g a) x.spot.statement x.places x.start
+pub record ChecksHold (g : Graph) (a : Analysis) (x : Occurrence) : Type 0 where
+  pub safe : SafeHolds (names a.found.known.symbols) (known_by g a) x.spot.statement x.places x.start
+  pub keeps : Keeps (names a.found.known.symbols) (scope_of g.untracked a.found.known) a.found.known.read.body x.spot.statement x
 
 -- of an execution in whatever module
 abbrev pub AllChecksHold : Graph → List Analysis → Occurrence → Type 0

@@ -8,3 +8,4 @@ pub mod Lines
 pub mod Said
 pub mod LinesPass
 pub mod SafeLines
+pub mod Evaluations

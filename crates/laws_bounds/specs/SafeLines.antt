@@ -8,6 +8,8 @@ use Rattle.f77_ast.specs.Store.{Content, Store}
 use Rattle.f77_ast.specs.Places.{Names, Places}
 use Rattle.f77_ast.specs.Values.{value, values, target, shown}
 use Rattle.f77_ast.specs.Calls.{actual}
+use Rattle.f77_ast.specs.Plans.{Plan}
+use Rattle.f77_ast.specs.Executions.{run_of}
 use Rattle.preconditions.specs.transformer_algebra.Laws.{In}
 use Rattle.call_graph.specs.declared.graph.Graph.{Graph}
 use Rattle.f77_meaning.specs.Modules.{Known, known_of, names}
@@ -16,9 +18,11 @@ use Rattle.f77_meaning.specs.Claimed.{InEveryRun}
 use Rattle.bound_check.specs.loop_marker.module_phases.ScalarPhases.{scope_of, Analysis, analyses}
 use Rattle.laws_programs.specs.Programs.{IsProgram}
 use Rattle.bound_check.specs.Checked.{ChecksAt, checked_of}
-use Rattle.laws_bounds.specs.Claims.{StaysInside, SameBut, known_by}
+use Rattle.bound_check.specs.References.{elements}
+use Rattle.laws_bounds.specs.Claims.{StaysInside, known_by}
+use Rattle.laws_bounds.specs.Evaluations.{Evaluation, evaluations, ComesTo, Does}
 use Rattle.laws_bounds.specs.Faults.{NoBounds}
-use Rattle.laws_bounds.specs.Lines.{Statement, body_all, evaluated}
+use Rattle.laws_bounds.specs.Lines.{Statement, body_all}
 
 -- ---- faults
 
@@ -41,20 +45,27 @@ pub record AddsNoFault (w : Names) (at : Places) (z : Store) (e : ExprTree) : Ty
 
 -- ---- runs
 
--- of an arrival of the statement of this number: at each store that it has come to, where it has changed these variables alone, the reference stays inside its array and adds no fault
-abbrev pub HoldsAt : Graph → Analysis → ℕ → List ℕ → ExprTree → Occurrence → Type 0
-HoldsAt g a n written e x =
-    a.found.known.read.name ≡ x.spot.module_name → x.spot.statement ≡ n → (z : Store) → SameBut (scope_of g.untracked a.found.known) x.places written x.start z
-    → StaysInside e (names a.found.known.symbols) x.places z × AddsNoFault (names a.found.known.symbols) x.places z e
+-- an execution of this statement, begun with the store and some input: wherever it comes to evaluate this expression, the reference stays inside its array and adds no fault
+pub record HoldsIn (w : Names) (s : Statement) (v : Evaluation) (e : ExprTree) (x : Occurrence) : Type 0 where
+  pub plan : Plan
+  pub input : List Content
+  pub ran : x.ran ≡ run_of plan x.start input
+  pub does : Does w s.number s.what x.places plan
+  pub holds : ComesTo w x.places does.locked (does.scope.own_unit s.number) v x.start input (λ z. StaysInside e w x.places z × AddsNoFault w x.places z e)
 
--- a statement of the module that has its lines at this number evaluates the reference, after it has changed these variables, and so it is at each arrival of that statement in every run, up to the first fault
+-- of each arrival of the statement
+abbrev pub HoldsAt : Analysis → Statement → Evaluation → ExprTree → Occurrence → Type 0
+HoldsAt a s v e x = a.found.known.read.name ≡ x.spot.module_name → x.spot.statement ≡ s.number → HoldsIn (names a.found.known.symbols) s v e x
+
+-- a statement of the module that has its lines at this number evaluates an expression with the reference, and so it is at each arrival of that statement in every run, up to the first fault
 pub record IsSafe (ks : List Known) (g : Graph) (a : Analysis) (line : ℕ) (e : ExprTree) : Type 0 where
   pub statement : Statement
   pub stands : In statement (body_all a.found.known.read.body)
   pub line_is : statement.line ≡ line
-  pub written : List ℕ
-  pub is_evaluated : In (record { element = e; written = written }) (evaluated (scope_of g.untracked a.found.known) statement.what)
-  pub holds : InEveryRun ks g (HoldsAt g a statement.number written e)
+  pub evaluation : Evaluation
+  pub is_evaluated : In evaluation (evaluations statement.what)
+  pub refers : In e (elements evaluation.expression (scope_of g.untracked a.found.known))
+  pub holds : InEveryRun ks g (HoldsAt a statement evaluation e)
 
 -- each reference on the lines SAFE of a module
 abbrev pub SafeLinesHold : List Known → Graph → Analysis → Type 0
